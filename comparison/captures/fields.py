@@ -4,10 +4,10 @@
     ./fields.py FILE..             captures in either format
     ./fields.py --program P FILE..
 
-Compared are the time, the lengths of a frame that was cut, both addresses, the hops, the protocol, the length, the fragment, the ports
-or the type and code, and both verdicts. A difference that the README of `ipcap` explains is counted under its reason, any other one
-has failed; up to ten of each are printed. The last line is 'N passed, M failed': packets that are the same but for such differences,
-and the others. A file that `ipcap` refuses is named.
+Compared are of each line the time and the lengths of a frame that was cut; of one that shows a packet both addresses, the hops, the
+protocol, the length, the fragment, the ports or the type and code, and both verdicts. A difference with a reason that `reason` or
+`without_packet` has is counted under it, any other one has failed; up to ten of each are printed. The last line is 'N passed, M
+failed': packets that are the same but for such differences, and the others. A file that `ipcap` refuses with status 2 is named.
 """
 import argparse
 import collections
@@ -17,25 +17,28 @@ import subprocess
 import sys
 
 PROGRAM = pathlib.Path(__file__).resolve().parents[2] / 'crates/ipcap/out/ipcap'
-FIELDS = ('frame.time_epoch', 'frame.cap_len', 'frame.len', 'frame.protocols', 'ip.src', 'ip.dst', 'ip.ttl', 'ip.proto', 'ip.hdr_len',
-          'ip.len', 'ip.id', 'ip.frag_offset', 'ip.flags.mf', 'ip.checksum.status', 'ipv6.src', 'ipv6.dst', 'ipv6.hlim', 'ipv6.nxt',
-          'ipv6.plen', 'ipv6.hopopts.nxt', 'ipv6.routing.nxt', 'ipv6.dstopts.nxt', 'ah.next_header', 'ipv6.fraghdr.nxt',
-          'ipv6.fraghdr.offset', 'ipv6.fraghdr.more', 'ipv6.fraghdr.ident', 'udp.srcport', 'udp.dstport', 'udp.checksum.status',
-          'tcp.srcport', 'tcp.dstport', 'tcp.checksum', 'tcp.checksum.status', 'icmp.type', 'icmp.code', 'icmp.checksum.status',
-          'icmpv6.type', 'icmpv6.code', 'icmpv6.checksum.status')
+FIELDS = ('frame.time_epoch', 'frame.cap_len', 'frame.len', 'frame.protocols', 'ip.version', 'ip.src', 'ip.dst', 'ip.ttl',
+          'ip.proto', 'ip.hdr_len', 'ip.len', 'ip.id', 'ip.frag_offset', 'ip.flags.mf', 'ip.checksum.status', 'ipv6.src',
+          'ipv6.dst', 'ipv6.hlim', 'ipv6.nxt', 'ipv6.plen', 'ipv6.hopopts.nxt', 'ipv6.routing.nxt', 'ipv6.dstopts.nxt',
+          'ah.next_header', 'ipv6.fraghdr.nxt', 'ipv6.fraghdr.offset', 'ipv6.fraghdr.more', 'ipv6.fraghdr.ident', 'udp.srcport',
+          'udp.dstport', 'udp.checksum.status', 'tcp.srcport', 'tcp.dstport', 'tcp.checksum', 'tcp.checksum.status', 'icmp.type',
+          'icmp.code', 'icmp.checksum.status', 'icmpv6.type', 'icmpv6.code', 'icmpv6.checksum.status')
 # tshark is not to put anything together, and is to verify every checksum, also where the total length is 0.
 OPTIONS = ('ip.defragment:FALSE', 'ipv6.defragment:FALSE', 'tcp.desegment_tcp_streams:FALSE', 'tcp.analyze_sequence_numbers:FALSE',
            'wlan.enable_decryption:FALSE', 'ip.check_checksum:TRUE', 'tcp.check_checksum:TRUE', 'udp.check_checksum:TRUE')
 # The extension headers of IPv6 by their numbers, with the field that has the number of the next one.
 NEXT = {0: 'ipv6.hopopts.nxt', 43: 'ipv6.routing.nxt', 44: 'ipv6.fraghdr.nxt', 51: 'ah.next_header', 60: 'ipv6.dstopts.nxt'}
 # IANA's keywords of the protocols of which `ipcap` prints the keyword.
-KEYWORDS = {'ICMP': 1, 'IGMP': 2, 'IPv4': 4, 'TCP': 6, 'UDP': 17, 'DCCP': 33, 'IPv6': 41, 'RSVP': 46, 'GRE': 47, 'ESP': 50, 'AH': 51,
-            'IPv6-ICMP': 58, 'IPv6-NoNxt': 59, 'EIGRP': 88, 'OSPFIGP': 89, 'PIM': 103, 'IPComp': 108, 'VRRP': 112, 'L2TP': 115,
-            'SCTP': 132, 'UDPLite': 136, 'MPLS-in-IP': 137}
+KEYWORDS = {'ICMP': 1, 'IGMP': 2, 'IPv4': 4, 'TCP': 6, 'UDP': 17, 'DCCP': 33, 'IPv6': 41, 'RSVP': 46, 'GRE': 47, 'ESP': 50,
+            'AH': 51, 'IPv6-ICMP': 58, 'IPv6-NoNxt': 59, 'EIGRP': 88, 'OSPFIGP': 89, 'PIM': 103, 'IPComp': 108, 'VRRP': 112,
+            'L2TP': 115, 'SCTP': 132, 'UDPLite': 136, 'MPLS-in-IP': 137}
 UPPER = {17: ('udp', 'udp.srcport', 'udp.dstport', '>'), 6: ('tcp', 'tcp.srcport', 'tcp.dstport', '>'),
          1: ('icmp', 'icmp.type', 'icmp.code', '/'), 58: ('icmpv6', 'icmpv6.type', 'icmpv6.code', '/')}
 # What `ipcap` passes on the way to the packet, by tshark's names.
 PASSED = {'eth', 'ethertype', 'vlan', 'ieee8021ad', 'sll', 'null', 'raw', 'radiotap', 'wlan', 'llc', 'ppp', 'chdlc', 'fr'}
+# The lengths of link headers, by tshark's names, and the least lengths of other headers, by the keywords.
+LINKS = {'eth': 14, 'sll': 16, 'null': 4}
+LEAST = {'UDP': 8, 'TCP': 20, 'ICMP': 4, 'IPv6-ICMP': 4}
 VERDICTS = {'0': 'wrong', '1': 'right', '2': 'none', '3': 'none'}
 
 
@@ -76,8 +79,7 @@ def wanted(told):
     version = next((it for it in protocols if it in ('ip', 'ipv6')), None)
     if version is None:
         return None
-    inner = protocols[protocols.index(version) + 1:]
-    found = {'time': told['frame.time_epoch'], 'cut': (told['frame.cap_len'], told['frame.len'])}
+    inner, found = protocols[protocols.index(version) + 1:], {}
     if version == 'ip' and told['ip.src'] and told['ip.len']:
         found |= {'source': told['ip.src'], 'destination': told['ip.dst'], 'hops': told['ip.ttl'], 'upper': int(told['ip.proto']),
                   'length': int(told['ip.len']) - int(told['ip.hdr_len']), 'header': VERDICTS.get(told['ip.checksum.status']),
@@ -94,17 +96,20 @@ def wanted(told):
 
 
 def said(words):
-    """what a line says of a packet"""
+    """what a line says of a frame, and of its packet if it shows one"""
     cut = words[words.index('cut') + 1].split('/') if 'cut' in words else None
-    return {'time': words[1], 'source': words[2], 'destination': words[4], 'upper': KEYWORDS.get(words[5], words[5]), 'detail': words[6],
-            'length': int(words[8]), 'hops': words[10], 'fragment': words[12], 'header': words[14], 'payload': words[15], 'cut': cut}
+    if words[3] != '>':
+        return {'time': words[1], 'cut': cut}
+    return {'time': words[1], 'cut': cut, 'source': words[2], 'destination': words[4], 'upper': KEYWORDS.get(words[5], words[5]),
+            'detail': words[6], 'length': int(words[8]), 'hops': words[10], 'fragment': words[12], 'header': words[14],
+            'payload': words[15]}
 
 
 def is_same(key, ours, theirs):
     if key in ('source', 'destination'):
         return ipaddress.ip_address(ours) == ipaddress.ip_address(theirs)
     if key == 'time':
-        return theirs.startswith(ours)
+        return theirs in (ours, ours + '000')
     if key == 'cut':
         return ours == list(theirs) if ours else theirs[0] == theirs[1]
     return str(ours) == str(theirs)
@@ -112,8 +117,8 @@ def is_same(key, ours, theirs):
 
 def reason(key, ours, theirs, words, told, digits):
     """why a line may differ from what tshark says; nothing if it may not"""
-    is_later = '@' in words[12] and not words[12].rstrip('+').endswith('@0')
-    if key == 'time' and (len(ours.partition('.')[2]) > digits or ours == '0.000000' or theirs.startswith('-')):
+    is_later = words[3] == '>' and '@' in words[12] and not words[12].rstrip('+').endswith('@0')
+    if key == 'time' and (len(ours.partition('.')[2]) > digits or theirs.startswith('-') or not theirs):
         return 'a fraction of a second that is one or more, a time before 1970, or none'
     if key in ('upper', 'length') and words[5].isdigit() and int(words[5]) in NEXT and 'cut' in words:
         return 'a packet that was truncated within its extension headers'
@@ -123,7 +128,7 @@ def reason(key, ours, theirs, words, told, digits):
         return 'a total length of 0'
     if key in ('detail', 'payload') and is_later:
         return 'tshark shows the port of a later fragment'
-    if key == 'detail' and ours == '-':
+    if key == 'detail' and ours == '-' and ('cut' in words or '@' in words[12] or int(words[8]) < LEAST[words[5]]):
         return 'an incomplete header'
     if key == 'payload' and ours == 'wrong' and theirs == 'right' and 'ipv6.routing' in told['frame.protocols']:
         return 'a routing header'
@@ -132,10 +137,22 @@ def reason(key, ours, theirs, words, told, digits):
     return None
 
 
+def is_damaged(told):
+    """whether what tshark says of an IP header is a fault: the version, a length, or that there is no whole header"""
+    link = LINKS.get(told['frame.protocols'].partition(':')[0], 0)
+    room, captured = int(told['frame.len']) - link, int(told['frame.cap_len']) - link
+    if 'ipv6' in told['frame.protocols'].split(':') and told['ipv6.plen']:
+        return 40 + int(told['ipv6.plen']) > room or upper_of(told) is None or told['ip.version'] not in ('', '4')
+    if not (told['ip.len'] and told['ip.hdr_len']):
+        return True
+    header, whole = int(told['ip.hdr_len']), int(told['ip.len'])
+    return told['ip.version'] != '4' or header < 20 or whole < header or whole > room or header > captured
+
+
 def without_packet(words, told):
     """why a line has no packet where tshark finds an IP header"""
     if words[2] != 'other:':
-        return f'refused: {" ".join(words[3:6])}'
+        return f'refused: {" ".join(words[3:6])}' if is_damaged(told) else 'FAILED: refused'
     protocols = told['frame.protocols'].split(':')
     before = protocols[:min(protocols.index(it) for it in ('ip', 'ipv6') if it in protocols)]
     if 'ppp' in before and 'chdlc' in before:
@@ -147,25 +164,32 @@ def without_packet(words, told):
 def compare(name, program, shown, counts):
     with open(name, 'rb') as file:
         ran = subprocess.run([program], stdin=file, capture_output=True, check=False)
-    if ran.returncode not in (0, 1):
-        print(f'refused: {name}: {ran.stderr.decode().strip()}')
+    errors = ran.stderr.decode().strip()
+    if ran.returncode == 2:
+        print(f'refused: {name}: {errors}')
         return
+    if ran.returncode == 1 and errors.startswith(('error: the last record is cut off', 'error: the block at byte')):
+        shown['ended early'].append(f'{name}: {errors}')
+    elif ran.returncode:
+        shown['FAILED: status'].append(f'{name}: {ran.returncode}: {errors}')
+        counts['failed'] += 1
     lines, packets, digits = ran.stdout.decode().splitlines(), of_tshark(name), digits_of(name)
     if len(lines) != len(packets) and ran.returncode == 0:
         shown['FAILED: number of packets'].append(f'{name}: {len(lines)}, not {len(packets)}')
         counts['failed'] += 1
     for line, told in zip(lines, packets):
         words, theirs, kinds = line.split(' '), wanted(told), []
+        ours = said(words)
         if words[3] != '>':
-            kinds = [without_packet(words, told)] if theirs else []
+            kinds = [without_packet(words, told)] if theirs is not None else []
         elif theirs is None:
             kinds = ['tshark finds no IP header']
-        else:
-            ours = said(words)
-            for key in theirs:
-                if not is_same(key, ours[key], theirs[key]):
-                    why = reason(key, ours[key], theirs[key], words, told, digits)
-                    kinds.append(why or f'FAILED: {key}: {theirs[key]}')
+        theirs = theirs if words[3] == '>' and theirs else {}
+        theirs |= {'time': told['frame.time_epoch'], 'cut': (told['frame.cap_len'], told['frame.len'])}
+        for key in theirs:
+            if not is_same(key, ours[key], theirs[key]):
+                why = reason(key, ours[key], theirs[key], words, told, digits)
+                kinds.append(why or f'FAILED: {key}: {theirs[key]}')
         counts['failed' if any(kind.startswith('FAILED') for kind in kinds) else 'passed'] += 1
         counts['packets'] += words[3] == '>'
         for kind in kinds:
