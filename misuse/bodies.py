@@ -3,10 +3,13 @@
 
 Each is tried on a copy of its crate, which `rt ci` has just proved: a check of the function whose contract speaks of it has to
 refuse that function. Of the functions that it calls only the contracts are there: their bodies are stubs in the copy, and their
-proofs holes. So one check tries the bodies of different functions together. README.md says how a body is written. As many crates
-are tried at a time as there are processors, up to four. The last line is 'N passed, M failed'.
+proofs holes. So one check tries the bodies of different functions together, also of different libraries, if none stands on another:
+a check takes 10 seconds before its first function. README.md says how a body is written. As many checks are made at a time as there
+are processors, up to four. The last line is 'N passed, M failed'.
 """
 import concurrent.futures
+import functools
+import itertools
 import os
 import pathlib
 import re
@@ -30,13 +33,13 @@ TYPE = re.compile(r'^(?:pub(?:\(\w+\))? )?(?:struct|enum) (\w+)', re.M)
 HOLE = 'use Rattle.{0}.proofs.{1}.Statement.{{statement}}\n\npub {2}_spec : {{M : Type 1}} → statement M\n{2}_spec = ?\n'
 PLACE = re.compile(r'note: \S+:\d+:\d+:|\S+:\d+:\d+: error')
 # A function that the checker did not prove, unless that is only since it calls such a function; and the reasons. One of them may be
-# that it stands on the proof of another function.
+# that it stands on proofs, also of other functions: their paths.
 REFUSED = r'^fn %s::(\S+): (?:not proved|no proof)(?!: it calls [^;]*$)(.*)$'
-STANDS_ON = re.compile(r'it stands on `Rattle\.\w+\.proofs\.(\S+)`')
+PROOF = re.compile(r'`Rattle\.\w+\.proofs\.(\S+)`')
 # What the checker says where a proof names what the body took away: such a refusal tells nothing of the contract.
-NAMES = re.compile(r'(note: )?(\./)?proofs/.*(has no field|is not in scope|has no `|was not admitted)')
+NAMES = re.compile(r'(note: )?(\./|\.\./\w+/)?proofs/.*(has no field|is not in scope|has no `|was not admitted)')
 # What it says of a lemma that it rejects: that of a contract, if the body is tried alone.
-LEMMA = re.compile(r'(\./)?proofs/\S+:\d+:\d+: error: `\w+`: ')
+LEMMA = re.compile(r'(\./|\.\./\w+/)?proofs/\S+:\d+:\d+: error: `\w+`: ')
 
 
 def read(body):
@@ -55,26 +58,49 @@ def read(body):
     return functions, edits
 
 
-def words(crate):
-    """what the checker has to know beside the crate: its libraries as they were built, and how it is to check"""
+@functools.cache
+def below():
+    """Returns for each crate of the repository which libraries it may use."""
     lines = [line.split(':') for line in (HERE.parent / 'crates.txt').read_text().splitlines()]
-    below = {head.split()[0]: names.split() for head, names in lines}
+    return {head.split()[0]: names.split() for head, names in lines}
+
+
+def is_static(crate):
+    return f'{crate} staticlib:' in (HERE.parent / 'crates.txt').read_text()
+
+
+def height(crate):
+    """Returns how many crates of the repository stand on one another below a crate, at the most."""
+    return max((height(it) + 1 for it in below()[crate] if it in below()), default=0)
+
+
+def is_library(crate):
+    return (CRATES / crate / 'src/lib.rt').is_file() and not is_static(crate)
+
+
+def words(crates):
+    """what the checker has to know beside these crates: their libraries as they were built, and how it is to check"""
+    used = sorted({'std', *[it for crate in crates for it in below()[crate]]})
     at = lambda name: next(it for it in (KIT / 'rlibs' / f'{name}.rlib', CRATES / name / 'out/rlib' / f'{name}.rlib') if it.is_dir())
     return [
-        *[word for name in ['std', *below[crate]] for word in ('--extern', f'{name}={at(name)}')],
+        *[word for name in used for word in ('--extern', f'{name}={at(name)}')],
         *['-L', f'dependency={KIT}/rlibs'],
-        *[word for name in below for word in ('-L', f'dependency={CRATES / name}/out/rlib') if (CRATES / name / 'out/rlib').is_dir()],
+        *[word for name in below() for word in ('-L', f'dependency={CRATES / name}/out/rlib') if (CRATES / name / 'out/rlib').is_dir()],
         *['--antt-project', f'{KIT}/rattle/logic/antt-project.json', '--logic-built', f'{KIT}/logic_built', '--jobs', '1'],
-        *(['--crate-type', 'staticlib'] if [crate, 'staticlib'] in [head.split() for head, _ in lines] else []),
+        *(['--crate-type', 'staticlib'] if any(map(is_static, crates)) else []),
     ]
 
 
-def check(crate, room, kept, functions):
-    """Checks functions of a crate that stands in a folder, and keeps what was proved in another. Stubs have holes for proofs."""
-    only = ['--allow-holes', *[word for it in sorted(functions) for word in ('--only', f'{crate}::{it}')]]
-    root = next(it for it in ('src/lib.rt', 'src/main.rt') if pathlib.Path(room, it).is_file())
-    return subprocess.run([KIT / 'bin/rattle', 'check', '--crate-name', crate, root, *words(crate), *only, '--incremental', kept],
-                          cwd=room, text=True, stdout=subprocess.PIPE, stderr=subprocess.STDOUT)
+def check(room, kept, functions):
+    """Checks functions of crates, each of which stands in a folder of a folder, and keeps what was proved in another. The first crate is
+    the one that is checked, with the others as libraries that it is passed as source. Stubs have holes for proofs."""
+    first, *others = functions
+    only = ['--allow-holes', *[word for it in others for word in ('--lib', f'{it}=../{it}/src/lib.rt')]]
+    only += [word for crate, its in functions.items() for it in sorted(its) for word in ('--only', f'{crate}::{it}')]
+    root = next(it for it in ('src/lib.rt', 'src/main.rt') if pathlib.Path(room, first, it).is_file())
+    os.makedirs(f'{kept}/{first}', exist_ok=True)
+    command = [KIT / 'bin/rattle', 'check', '--crate-name', first, root, *words(functions), *only, '--incremental', f'{kept}/{first}']
+    return subprocess.run(command, cwd=f'{room}/{first}', text=True, stdout=subprocess.PIPE, stderr=subprocess.STDOUT)
 
 
 def changed(text, old):
@@ -164,12 +190,14 @@ def groups(crate, bodies):
     return apart + alone + [laws] * bool(laws)
 
 
-def told(crate, function, lines):
-    """Returns what the checker said of a function: of its proofs, and before its verdict."""
+def told(crate, function, lines, is_source):
+    """Returns what the checker said of a function, whose crate may be a library passed as source: of its proofs, and before its
+    verdict."""
     verdicts = [at for at, line in enumerate(lines) if line.startswith('fn ')]
     end = next((at for at in verdicts if lines[at].startswith(f'fn {crate}::{function}: ')), 0)
     begin = max((at for at in verdicts if at < end), default=-1)
-    own = re.compile(r'(note: )?(\./)?proofs/' + re.escape(function.replace('::', '/')) + '/')
+    folder = rf'\.\./{crate}/' if is_source else r'(\./)?'
+    own = re.compile(f'(note: )?{folder}proofs/' + re.escape(function.replace('::', '/')) + '/')
     return [line for at, line in enumerate(lines) if PLACE.match(line) and (own.match(line) or begin < at < end)]
 
 
@@ -180,33 +208,34 @@ def refused(crate, text):
 
     def is_of_others(function, why):
         reasons = [it for it in why.removeprefix('; ').split('; ') if it and not it.startswith('it calls ')]
-        on = [found and next((it for it in proofs if found[1].startswith(proofs[it])), None) for found in map(STANDS_ON.match, reasons)]
-        return on and all(on) and function not in on
+        on = [[next((it for it in proofs if path.startswith(proofs[it])), None) for path in PROOF.findall(reason)] for reason in reasons]
+        return on and all(its and all(its) and function not in its for its in on)
 
     return {it for it, why in re.findall(REFUSED % crate, text, re.M) if not is_of_others(it, why)}
 
 
-def why_failed(crate, bodies, whole, kept):
-    """Returns for each of these bodies, which are tried together, why it is not refused as it has to be, or nothing."""
+def why_failed(group, whole, kept):
+    """Returns for each body of a group, which has bodies by their crates, why it is not refused as it has to be, or nothing."""
+    tried = {crate: {it for body in bodies for it in read(body)[0]} for crate, bodies in group.items()}
     with tempfile.TemporaryDirectory(dir=os.path.dirname(whole)) as room:
-        shutil.copytree(whole, f'{room}/crate')
-        stub(crate, f'{room}/crate', bodies)
-        for body in bodies:
-            for file, old, new in read(body)[1]:
-                file = pathlib.Path(room, 'crate', file)
+        for crate, bodies in group.items():
+            shutil.copytree(f'{whole}/{crate}', f'{room}/{crate}')
+            stub(crate, f'{room}/{crate}', bodies)
+            for file, old, new in (edit for body in bodies for edit in read(body)[1]):
+                file = pathlib.Path(room, crate, file)
                 file.write_text(file.read_text().replace(old, new))
-        tried = {it for body in bodies for it in read(body)[0]}
-        ran = check(crate, f'{room}/crate', kept, tried)
+        ran = check(room, kept, tried)
     lines = ran.stdout.splitlines() or ['nothing']
-    not_proved, found = refused(crate, ran.stdout), {}
-    for body in bodies:
+    is_alone, found = sum(map(len, group.values())) == 1, {}
+    for crate, body in ((crate, body) for crate, bodies in group.items() for body in bodies):
+        not_proved = refused(crate, ran.stdout)
         own = not_proved & set(read(body)[0])
-        said = [line for it in own for line in told(crate, it, lines)]
-        said += [line for line in lines if LEMMA.match(line) and len(bodies) == 1]
+        said = [line for it in own for line in told(crate, it, lines, crate != next(iter(group)))]
+        said += [line for line in lines if LEMMA.match(line) and is_alone]
         if ran.returncode == 0 or ran.returncode == 1 and not own:
             found[body] = 'it is proved'
-        elif ran.returncode != 1 or not_proved - tried or any(re.search(r'\berror\[', line) for line in lines):
-            found[body] = 'no verdict: ' + ' | '.join([*sorted(not_proved - tried), *lines[-4:]])
+        elif ran.returncode != 1 or not_proved - tried[crate] or any(re.search(r'\berror\[', line) for line in lines):
+            found[body] = 'no verdict: ' + ' | '.join([*sorted(not_proved - tried[crate]), *lines[-4:]])
         elif all(NAMES.match(line) for line in said):
             found[body] = f'no contract refuses it, but a proof that names what it took away: {(said or ["nothing is told"])[0]}'
         else:
@@ -214,41 +243,46 @@ def why_failed(crate, bodies, whole, kept):
     return found
 
 
-def tried(crate, bodies):
-    """Returns for each of the bodies of a crate why it failed, or nothing."""
+def tried(bodies):
+    """Returns for each of the bodies of some crates, none of which stands on another, why it failed, or nothing."""
     with tempfile.TemporaryDirectory() as room:
-        whole, kept = f'{room}/whole', f'{room}/kept'
-        for part in ('src', 'specs', 'proofs'):
-            if (CRATES / crate / part).is_dir():
-                shutil.copytree(CRATES / crate / part, f'{whole}/{part}')
-        os.mkdir(kept)
-        found = {}
-        for body in bodies:
-            texts = {}
-            for file, old, new in read(body)[1]:
-                text = texts.get(file) or pathlib.Path(whole, file).read_text()
-                if text.count(old) != 1:
-                    found[body] = f'{old} stands {text.count(old)} times in {file}'
-                texts[file] = text.replace(old, new)
-        for group in groups(crate, [body for body in bodies if body not in found]):
-            came = why_failed(crate, group, whole, kept)
-            for body, why in came.items():
+        whole, kept, found, by_crate = f'{room}/whole', f'{room}/kept', {}, {}
+        for crate, its in bodies.items():
+            for part in ('src', 'specs', 'proofs'):
+                if (CRATES / crate / part).is_dir():
+                    shutil.copytree(CRATES / crate / part, f'{whole}/{crate}/{part}')
+            for body in its:
+                texts = {}
+                for file, old, new in read(body)[1]:
+                    text = texts.get(file) or pathlib.Path(whole, crate, file).read_text()
+                    if text.count(old) != 1:
+                        found[body] = f'{old} stands {text.count(old)} times in {file}'
+                    texts[file] = text.replace(old, new)
+            by_crate[crate] = groups(crate, [body for body in its if body not in found])
+        for turn in itertools.zip_longest(*by_crate.values()):
+            group = {crate: its for crate, its in zip(by_crate, turn) if its}
+            came = why_failed(group, whole, kept)
+            for crate, body in ((crate, body) for crate, its in group.items() for body in its):
                 # (it may be the fault of another)
-                found[body] = why_failed(crate, [body], whole, kept)[body] if why and len(group) > 1 else why
-        return [found[body] for body in bodies]
+                found[body] = why_failed({crate: [body]}, whole, kept)[body] if came[body] and len(came) > 1 else came[body]
+        return found
 
 
 def main():
     pattern, crates = ('**/*.edit', sys.argv[1:]) if sys.argv[1:] else ('*.edit', sorted(it.name for it in BODIES.iterdir()))
-    bodies = {crate: sorted((BODIES / crate).glob(pattern)) for crate in crates}
-    crates = sorted((crate for crate in crates if bodies[crate]), key=lambda crate: -len(bodies[crate]))
+    bodies = {crate: its for crate in crates if (its := sorted((BODIES / crate).glob(pattern)))}
+    together = {}
+    for crate in sorted(bodies):
+        together.setdefault(height(crate) if is_library(crate) else crate, {})[crate] = bodies[crate]
+    together = sorted(together.values(), key=lambda its: -sum(map(len, its.values())))
     failed = 0
     with concurrent.futures.ThreadPoolExecutor(min(4, os.cpu_count())) as pool:
-        for crate, found in zip(crates, pool.map(lambda crate: tried(crate, bodies[crate]), crates)):
-            for body, why in zip(bodies[crate], found):
+        for its, found in zip(together, pool.map(tried, together)):
+            for crate, body in ((crate, body) for crate in its for body in its[crate]):
+                why = found[body]
                 print(f'FAILED: {crate}/{body.stem}: {why}' if why else f'refused, as it must be: {crate}/{body.stem}', flush=True)
                 failed += bool(why)
-    total = sum(len(found) for found in bodies.values())
+    total = sum(map(len, bodies.values()))
     print(f'{total - failed} passed, {failed} failed')
     sys.exit(bool(failed or not total))
 

@@ -5,7 +5,7 @@ use std::error::Error;
 use std::fmt;
 
 /// Why no option of a TCP header is read, where the options have not ended.
-#[derive(Clone, Debug, PartialEq, Eq, Drop)]
+#[derive(Clone, Copy, Debug, PartialEq, Eq)]
 pub enum TcpOptionReadError {
     /// The bytes end before the option does.
     UnexpectedEndOfSlice {

@@ -5,7 +5,7 @@ use std::error::Error;
 use std::fmt;
 
 /// Why options are not put into a TCP header.
-#[derive(Clone, Debug, PartialEq, Eq, Drop)]
+#[derive(Clone, Copy, Debug, PartialEq, Eq)]
 pub enum TcpOptionWriteError {
     /// How many bytes they have without padding, which is more than the 40 that a header has room
     /// for.

@@ -20,7 +20,7 @@ use etherparse::{Ipv4Header, Ipv6Header, LenSource};
 /// |             length            |            checksum           |
 /// +---------------+---------------+---------------+---------------+
 /// ```
-#[derive(Clone, Debug, PartialEq, Eq, Drop)]
+#[derive(Clone, Copy, Debug, PartialEq, Eq)]
 pub struct UdpHeader {
     /// Bytes 0 and 1: the port of the sender, or 0 if it expects no answer.
     pub source_port: u16,

@@ -14,7 +14,7 @@ use etherparse_transport::{TcpHeaderSlice, UdpHeader};
 use packet_parts::ip_slice::{IpHeaderSlice, IpSlice};
 
 /// The transport header of an IP packet, and what there is of what follows it.
-#[derive(Clone, Debug, PartialEq, Eq, Drop)]
+#[derive(Clone, Copy, Debug, PartialEq, Eq)]
 pub enum TransportSlice<'a> {
     /// A UDP datagram (RFC 768).
     Udp {

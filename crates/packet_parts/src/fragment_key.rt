@@ -12,7 +12,7 @@ use etherparse::{IpNumber, Ipv4Header, Ipv6Header};
 use etherparse_net::Ipv6FragmentHeader;
 
 /// The key of the fragments of one IPv4 packet (RFC 791 section 3.2).
-#[derive(Clone, Debug, PartialEq, Eq, Hash, Drop)]
+#[derive(Clone, Copy, Debug, PartialEq, Eq, Hash)]
 pub struct Ipv4Key {
     /// The address of the sender.
     pub source: [u8; 4],
@@ -25,7 +25,7 @@ pub struct Ipv4Key {
 }
 
 /// The key of the fragments of one IPv6 packet (RFC 8200 section 4.5).
-#[derive(Clone, Debug, PartialEq, Eq, Hash, Drop)]
+#[derive(Clone, Copy, Debug, PartialEq, Eq, Hash)]
 pub struct Ipv6Key {
     /// The address of the sender.
     pub source: [u8; 16],

@@ -106,8 +106,21 @@ others_are {cut = cut} cuts rest is = is ∙ ap (drop cut.header_len) cuts.whole
 pub long_ipv6 : {before : List ℕ} {header : Ipv6Header} {cut : Cut} (cuts : CutsIpv6 before header cut) (front : List ℕ) → front ≡ take cut.header_len before → 40 ≤ length front
 long_ipv6 cuts front is = omega (arith, ap length (headers_are cuts front is), length-append (header_bytes cuts.slice.header) cuts.slice.extensions.now, cuts.layout.len)
 
+-- a packet has its headers, and what follows them has the payload
+pub headers_within_ipv6 : {before : List ℕ} {header : Ipv6Header} {cut : Cut} (cuts : CutsIpv6 before header cut) → cut.header_len ≤ length before
+headers_within_ipv6 cuts =
+    let slice = cuts.slice in
+    let headers = header_bytes slice.header ++ slice.extensions.now in
+    omega (arith, cuts.header_len, ap length cuts.whole, length-append headers (slice.payload.now ++ cuts.trailer), length-append (header_bytes slice.header) slice.extensions.now)
+
 taken : {before : List ℕ} {header : Ipv6Header} {cut : Cut} (cuts : CutsIpv6 before header cut) (rest : List ℕ) → rest ≡ drop cut.header_len before → take cut.payload_len rest ≡ cuts.slice.payload.now
 taken {cut = cut} cuts rest is = ap (take cut.payload_len) (others_are cuts rest is) ∙ take_at cuts.slice.payload.now cuts.trailer cut.payload_len (sym cuts.payload_len)
+
+pub payload_within_ipv6 : {before : List ℕ} {header : Ipv6Header} {cut : Cut} (cuts : CutsIpv6 before header cut) (rest : List ℕ) → rest ≡ drop cut.header_len before → cut.payload_len ≤ length rest
+payload_within_ipv6 cuts rest is = omega (arith, cuts.payload_len, ap length (others_are cuts rest is), length-append cuts.slice.payload.now cuts.trailer)
+
+pub payload_len_ipv6 : {before : List ℕ} {header : Ipv6Header} {cut : Cut} (cuts : CutsIpv6 before header cut) (rest : List ℕ) → rest ≡ drop cut.header_len before → cut.payload_len ≡ length (take cut.payload_len rest)
+payload_len_ipv6 cuts rest is = cuts.payload_len ∙ sym (ap length (taken cuts rest is))
 
 pub enough_ipv6 : {before : List ℕ} {header : Ipv6Header} {cut : Cut} (cuts : CutsIpv6 before header cut) (rest : List ℕ) → rest ≡ drop cut.header_len before
     → cut.reach ≡ reaching.Upper → checksum_place cut.upper + 2 ≤ length (take cut.payload_len rest)

@@ -54,6 +54,19 @@ payload_is cuts rest is = ap (take _) (rest_is cuts rest is) ∙ take_at cuts.sl
 trailer_is : {before : List ℕ} {header : Ipv4Header} {cut : Cut} (cuts : CutsIpv4 before header cut) (rest : List ℕ) → rest ≡ drop cut.header_len before → drop cut.payload_len rest ≡ cuts.trailer
 trailer_is cuts rest is = ap (drop _) (rest_is cuts rest is) ∙ drop_at cuts.slice.payload.now _ _ (sym cuts.payload_len)
 
+-- a packet has its header, that has room for its addresses, and what follows has the payload
+pub headers_within_ipv4 : {before : List ℕ} {header : Ipv4Header} {cut : Cut} (cuts : CutsIpv4 before header cut) → cut.header_len ≤ length before
+headers_within_ipv4 cuts = omega (arith, cuts.header_len, ap length cuts.whole, length-append (header_bytes cuts.slice.header) (cuts.slice.payload.now ++ cuts.trailer))
+
+pub long_ipv4 : {before : List ℕ} {header : Ipv4Header} {cut : Cut} (cuts : CutsIpv4 before header cut) (front : List ℕ) → front ≡ take cut.header_len before → 20 ≤ length front
+long_ipv4 cuts front is = omega (arith, ap length (front_is cuts front is), cuts.layout.layout.len)
+
+pub payload_within_ipv4 : {before : List ℕ} {header : Ipv4Header} {cut : Cut} (cuts : CutsIpv4 before header cut) (rest : List ℕ) → rest ≡ drop cut.header_len before → cut.payload_len ≤ length rest
+payload_within_ipv4 cuts rest is = omega (arith, cuts.payload_len, ap length (rest_is cuts rest is), length-append cuts.slice.payload.now cuts.trailer)
+
+pub payload_len_ipv4 : {before : List ℕ} {header : Ipv4Header} {cut : Cut} (cuts : CutsIpv4 before header cut) (rest : List ℕ) → rest ≡ drop cut.header_len before → cut.payload_len ≡ length (take cut.payload_len rest)
+payload_len_ipv4 cuts rest is = cuts.payload_len ∙ sym (ap length (payload_is cuts rest is))
+
 -- a payload that the change reaches has room for its checksum
 pub enough_for : {before : List ℕ} {header : Ipv4Header} {cut : Cut} (cuts : CutsIpv4 before header cut) (rest : List ℕ) → rest ≡ drop cut.header_len before
     → cut.reach ≡ reaching.Upper → checksum_place cut.upper + 2 ≤ length (take cut.payload_len rest)
@@ -81,6 +94,36 @@ pub whole : (packet : List ℕ) (slice : IpSlice) → HasIpParts packet slice
     → (trailer : List ℕ) × (packet ≡ header_bytes slice.header ++ slice.extensions.now ++ (slice.payload.now ++ trailer))
 whole packet slice p = whole_with slice.header packet slice p
 
+-- the least header of UDP or of TCP has room for its ports
+least_four : (number : ℕ) → 4 ≤ least_len number
+least_four number = grind (arith, nat_tests)
+
+-- a packet with ports has its headers, what follows them has the payload, and that has room for its checksum and its ports
+pub headers_within_ports : {before : List ℕ} {cut : Cut} (cuts : CutsAtPorts before cut) → cut.header_len ≤ length before
+headers_within_ports cuts =
+    let slice = cuts.slice in
+    let headers = header_bytes slice.header ++ slice.extensions.now in
+    omega (arith, cuts.header_len, ap length cuts.whole, length-append headers (slice.payload.now ++ cuts.trailer), length-append (header_bytes slice.header) slice.extensions.now)
+
+others_ports : {before : List ℕ} {cut : Cut} (cuts : CutsAtPorts before cut) (rest : List ℕ) → rest ≡ drop cut.header_len before → rest ≡ cuts.slice.payload.now ++ cuts.trailer
+others_ports cuts rest is = is ∙ ap (drop _) cuts.whole
+    ∙ drop_at (header_bytes cuts.slice.header ++ cuts.slice.extensions.now) _ _ (length-append (header_bytes cuts.slice.header) cuts.slice.extensions.now ∙ sym cuts.header_len)
+
+pub payload_within_ports : {before : List ℕ} {cut : Cut} (cuts : CutsAtPorts before cut) (rest : List ℕ) → rest ≡ drop cut.header_len before → cut.payload_len ≤ length rest
+payload_within_ports cuts rest is = omega (arith, cuts.payload_len, ap length (others_ports cuts rest is), length-append cuts.slice.payload.now cuts.trailer)
+
+taken_ports : {before : List ℕ} {cut : Cut} (cuts : CutsAtPorts before cut) (rest : List ℕ) → rest ≡ drop cut.header_len before → take cut.payload_len rest ≡ cuts.slice.payload.now
+taken_ports cuts rest is = ap (take _) (others_ports cuts rest is) ∙ take_at cuts.slice.payload.now _ _ (sym cuts.payload_len)
+
+pub payload_len_ports : {before : List ℕ} {cut : Cut} (cuts : CutsAtPorts before cut) (rest : List ℕ) → rest ≡ drop cut.header_len before → cut.payload_len ≡ length (take cut.payload_len rest)
+payload_len_ports cuts rest is = cuts.payload_len ∙ sym (ap length (taken_ports cuts rest is))
+
+pub enough_ports : {before : List ℕ} {cut : Cut} (cuts : CutsAtPorts before cut) (rest : List ℕ) → rest ≡ drop cut.header_len before
+    → (checksum_place cut.upper + 2 ≤ length (take cut.payload_len rest)) × (4 ≤ length (take cut.payload_len rest))
+enough_ports cuts rest is =
+    let number = cuts.slice.upper in
+    rw (taken_ports cuts rest is, cuts.upper) (omega (arith, cuts.ports.enough, least_enough number), omega (arith, cuts.ports.enough, least_four number))
+
 -- the packet with another port, from what was written to its payload
 pub with_other_port : {before : List ℕ} {cut : Cut} (cuts : CutsAtPorts before cut) (offset port : ℕ) (front rest payload after : List ℕ) → front ≡ take cut.header_len before
     → rest ≡ drop cut.header_len before → payload ≡ with_port cut.upper offset (to_be_bytes w16 port) (take cut.payload_len rest)
@@ -92,9 +135,8 @@ with_other_port {before = before} {cut = cut} cuts offset port front rest payloa
     let headers = header_bytes slice.header ++ slice.extensions.now in
     let len : length headers ≡ cut.header_len = length-append (header_bytes slice.header) slice.extensions.now ∙ sym cuts.header_len in
     let first : front ≡ headers = front_at ∙ ap (take cut.header_len) cuts.whole ∙ take_at headers _ cut.header_len len in
-    let others : rest ≡ slice.payload.now ++ cuts.trailer = rest_at ∙ ap (drop cut.header_len) cuts.whole ∙ drop_at headers _ cut.header_len len in
-    let taken : take cut.payload_len rest ≡ slice.payload.now = ap (take cut.payload_len) others ∙ take_at slice.payload.now cuts.trailer cut.payload_len (sym cuts.payload_len) in
-    let left : drop cut.payload_len rest ≡ cuts.trailer = ap (drop cut.payload_len) others ∙ drop_at slice.payload.now cuts.trailer cut.payload_len (sym cuts.payload_len) in
+    let taken : take cut.payload_len rest ≡ slice.payload.now = taken_ports cuts rest rest_at in
+    let left : drop cut.payload_len rest ≡ cuts.trailer = ap (drop cut.payload_len) (others_ports cuts rest rest_at) ∙ drop_at slice.payload.now cuts.trailer cut.payload_len (sym cuts.payload_len) in
     let put : payload ≡ with_port slice.upper offset (to_be_bytes w16 port) slice.payload.now = rw (taken, cuts.upper) at written in
     let updated = rw (taken, cuts.upper) at updates in
     record {

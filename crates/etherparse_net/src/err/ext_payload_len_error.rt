@@ -6,7 +6,7 @@ use std::fmt;
 
 /// A length that an extension header of IPv6 cannot have after its first two bytes (RFC 8200
 /// sections 4.3, 4.4 and 4.6). Each has the length that was refused, in bytes.
-#[derive(Clone, Debug, PartialEq, Eq, Hash, Drop)]
+#[derive(Clone, Copy, Debug, PartialEq, Eq, Hash)]
 pub enum ExtPayloadLenError {
     /// It is below 6.
     TooSmall(usize),

@@ -6,7 +6,7 @@ use std::fmt;
 
 /// A length that the integrity check value of an authentication header cannot have (RFC 4302
 /// sections 2.2 and 2.6). Each has the length that was refused, in bytes.
-#[derive(Clone, Debug, PartialEq, Eq, Hash, Drop)]
+#[derive(Clone, Copy, Debug, PartialEq, Eq, Hash)]
 pub enum IcvLenError {
     /// It is above 1016.
     TooBig(usize),

@@ -5,7 +5,7 @@ use std::error::Error;
 use std::fmt;
 
 /// An option of IP that is cut off by the end of the bytes.
-#[derive(Clone, Debug, PartialEq, Eq, Hash, Drop)]
+#[derive(Clone, Copy, Debug, PartialEq, Eq, Hash)]
 pub struct IncompleteOption {
     /// The type of the option, its first byte.
     pub option_type: u8,

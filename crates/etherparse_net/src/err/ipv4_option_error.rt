@@ -6,7 +6,7 @@ use std::error::Error;
 use std::fmt;
 
 /// Why the options of an IPv4 header do not go on (RFC 791 section 3.1).
-#[derive(Clone, Debug, PartialEq, Eq, Hash, Drop)]
+#[derive(Clone, Copy, Debug, PartialEq, Eq, Hash)]
 pub enum Ipv4OptionError {
     /// An option is cut off by the end of the bytes.
     Incomplete(IncompleteOption),

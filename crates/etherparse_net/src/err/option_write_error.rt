@@ -5,7 +5,7 @@ use std::error::Error;
 use std::fmt;
 
 /// Why an option of IPv6 is not written (RFC 8200 section 4.2).
-#[derive(Clone, Debug, PartialEq, Eq, Hash, Drop)]
+#[derive(Clone, Copy, Debug, PartialEq, Eq, Hash)]
 pub enum OptionWriteError {
     /// Its data has so many bytes, which is more than an option of its type can have.
     DataTooLong(usize),

@@ -6,7 +6,7 @@ use std::fmt;
 
 /// Why a slice of sufficient length does not begin with an authentication header (RFC 4302 section
 /// 2).
-#[derive(Clone, Debug, PartialEq, Eq, Hash, Drop)]
+#[derive(Clone, Copy, Debug, PartialEq, Eq, Hash)]
 pub enum HeaderError {
     /// The payload length is 0: that is a header of 8 bytes, and each has at least 12.
     ZeroPayloadLen,

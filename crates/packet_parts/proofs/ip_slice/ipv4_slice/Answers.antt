@@ -1,8 +1,14 @@
-use Rattle.std.proofs.Common.{ℕ, ◌∙◌, ap, arith, length, length-drop, length-take, sym, take}
+use Rattle.std.proofs.Common.{ℕ, ◌∙◌, ap, arith, length, length-append, length-drop, length-take, sym, take}
 use Rattle.packet_parts.proofs.IpPackets.{payload_len_told, short_4, silent_4, whole_4}
 use Rattle.packet_parts.proofs.IpParts.{rest_is}
 use Rattle.packet_parts.proofs.ip_slice.ipv4_slice.Goals as goal
 use Rattle.packet_parts.proofs.ip_slice.ipv4_slice.Goals.{in-Ok-payload_len, in-Ok-2, in-Err-payload_len+else-total_len-ne0}
+
+pub slice_bounds-rest-count : goal.slice_bounds-rest-count
+slice_bounds-rest-count c = let f = c.in-Ok.ensures.views in omega (arith, ap length c.slice.ensures.value, ap length f.whole, length-append {A = ℕ})
+
+pub slice_bounds-rest-start : goal.slice_bounds-rest-start
+slice_bounds-rest-start c = slice_bounds-rest-count c
 
 pub slice_bounds-stop-end : goal.slice_bounds-stop-end
 slice_bounds-stop-end c =

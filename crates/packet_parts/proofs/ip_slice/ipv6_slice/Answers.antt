@@ -1,4 +1,4 @@
-use Rattle.std.proofs.Common.{◌+◌, ◌<◌, ◌≤◌, ◌∙◌, ◌++◌, ap, arith, inr, drop, length, refl, sym, take}
+use Rattle.std.proofs.Common.{ℕ, ◌+◌, ◌<◌, ◌≤◌, ◌∙◌, ◌++◌, ap, arith, inr, drop, length, length-append, refl, sym, take}
 use Rattle.std.proofs.lemmas.List.{drop_at}
 use Rattle.etherparse.specs.Ipv6Header.{IsIpv6Layout}
 use Rattle.etherparse.specs.Reading.{BeginsWith}
@@ -33,3 +33,9 @@ returns-clause-found c =
     let cut = cut_front packet view.slice.now f.rest f.header.payload_length (40 + f.header.payload_length) f.whole (omega (arith, f.layout.len)) in
     let body : BeginsWith IsIpv6Layout (ipv6_bytes f.header packet) f.header _ = record { front = view.slice.now; whole = cut ∙ ap (λ x. view.slice.now ++ x) (ap (take _) (sym rest) ∙ ap (λ n. take n (drop 40 packet)) (omega (arith, told))); layout = f.layout } in
     record { parts = c.ipv6_parts.ensures.parts packet f.header body refl; stop = c.ipv6_parts.ensures.stop packet f.header enough body refl }
+
+pub slice_bounds-ipv6_parts-count : goal.slice_bounds-ipv6_parts-count
+slice_bounds-ipv6_parts-count c = let f = c.in-Ok.ensures.views in omega (arith, f.layout.len, ap length f.whole, length-append {A = ℕ})
+
+pub slice_bounds-ipv6_parts-start : goal.slice_bounds-ipv6_parts-start
+slice_bounds-ipv6_parts-start c = slice_bounds-ipv6_parts-count c
