@@ -32,3 +32,7 @@ from_front {Q = Q} end old new w within such = record {
 -- what is written is also something else
 pub weaker : {P Q : List ℕ → Type 0} (end : ℕ) (old new : List ℕ) → WritesFront P end old new → ((p : List ℕ) → P p → Q p) → WritesFront Q end old new
 weaker end old new w such = record { front = such (take end new) w.front; within = w.within; after = w.after }
+
+-- a part that is written is also something else
+pub part_also : {P Q : List ℕ → Type 0} {at end : ℕ} {old new : List ℕ} → WritesPart P at end old new → ((p : List ℕ) → P p → Q p) → WritesPart Q at end old new
+part_also w such = record { part = w.part; is_such = such w.part w.is_such; joined = w.joined; after = w.after; same_len = w.same_len }
