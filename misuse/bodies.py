@@ -92,8 +92,8 @@ def words(crates):
 
 
 def check(room, kept, functions):
-    """Checks functions of crates, each of which stands in a folder of a folder, and keeps what was proved in another. The first crate is
-    the one that is checked, with the others as libraries that it is passed as source. Stubs have holes for proofs."""
+    """Checks functions of crates, which stand side by side in a folder, and keeps what was proved in another. The first crate is the one
+    that is checked; the others are libraries that it is passed as source. Stubs have holes for proofs."""
     first, *others = functions
     only = ['--allow-holes', *[word for it in others for word in ('--lib', f'{it}=../{it}/src/lib.rt')]]
     only += [word for crate, its in functions.items() for it in sorted(its) for word in ('--only', f'{crate}::{it}')]
