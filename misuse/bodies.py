@@ -216,7 +216,7 @@ def refused(crate, text):
 
 def why_failed(group, whole, kept):
     """Returns for each body of a group, which has bodies by their crates, why it is not refused as it has to be, or nothing."""
-    tried = {crate: {it for body in bodies for it in read(body)[0]} for crate, bodies in group.items()}
+    functions = {crate: {it for body in bodies for it in read(body)[0]} for crate, bodies in group.items()}
     with tempfile.TemporaryDirectory(dir=os.path.dirname(whole)) as room:
         for crate, bodies in group.items():
             shutil.copytree(f'{whole}/{crate}', f'{room}/{crate}')
@@ -224,7 +224,7 @@ def why_failed(group, whole, kept):
             for file, old, new in (edit for body in bodies for edit in read(body)[1]):
                 file = pathlib.Path(room, crate, file)
                 file.write_text(file.read_text().replace(old, new))
-        ran = check(room, kept, tried)
+        ran = check(room, kept, functions)
     lines = ran.stdout.splitlines() or ['nothing']
     is_alone, found = sum(map(len, group.values())) == 1, {}
     for crate, body in ((crate, body) for crate, bodies in group.items() for body in bodies):
@@ -234,8 +234,8 @@ def why_failed(group, whole, kept):
         said += [line for line in lines if LEMMA.match(line) and is_alone]
         if ran.returncode == 0 or ran.returncode == 1 and not own:
             found[body] = 'it is proved'
-        elif ran.returncode != 1 or not_proved - tried[crate] or any(re.search(r'\berror\[', line) for line in lines):
-            found[body] = 'no verdict: ' + ' | '.join([*sorted(not_proved - tried[crate]), *lines[-4:]])
+        elif ran.returncode != 1 or not_proved - functions[crate] or any(re.search(r'\berror\[', line) for line in lines):
+            found[body] = 'no verdict: ' + ' | '.join([*sorted(not_proved - functions[crate]), *lines[-4:]])
         elif all(NAMES.match(line) for line in said):
             found[body] = f'no contract refuses it, but a proof that names what it took away: {(said or ["nothing is told"])[0]}'
         else:
