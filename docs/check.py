@@ -6,9 +6,9 @@
 - Code in Rattle stands in a source file, contracts aside, or else proves in a crate of its own;
   a line in antt stands in a proof or a definition; other code stands in a file of its language or
   compiles.
-- A file that a page names is there, and each command names files that are there; a command that
-  pipes into `rt run` or `rt try` in crates/iphead is run by the built program, and prints what the
-  page shows.
+- A file that a page names is there, and each command names files that are there, and scripts that
+  can be run; a command that pipes into `rt run` or `rt try` in crates/iphead is run by the built
+  program, and prints what the page shows.
 - A clause that a page quotes below a function is one of that function.
 - In a table of contracts, `f`, `g`: `a`, its part `p`, by `D` says that every public function f of
   the crate and every g has the clause a, that a definition in this clause has the part p, and that
@@ -274,6 +274,14 @@ def check_files(page, text):
             judge(page, name, is_there(page, name), 'is not there')
 
 
+def check_scripts(page, text):
+    """a script that a page calls with arguments can be run"""
+    for name in re.findall(r'`(?:[A-Z_]+=\S+ )*([\w./-]*/[\w-]+\.(?:sh|py)) [^`\n]*`', text):
+        found = [file for file in (ROOT / name, page.parent / name) if file.is_file()]
+        found = found or [file for file in FILES if f'/{file.relative_to(ROOT)}'.endswith('/' + name.removeprefix('./'))]
+        judge(page, name, found and all(os.access(file, os.X_OK) for file in found), 'is not there, or cannot be run')
+
+
 def called(name, crate=''):
     """the contracts of what a page calls so: those of a crate, if it has any of that name"""
     found = [one for one in CONTRACTS if name in one.names]
@@ -515,7 +523,7 @@ for file, content in SOURCES.items():
     check_unsaid(file, content)
 for file in PAGES:
     content = file.read_text()
-    for check in check_code, check_files, check_clauses, check_commands, check_figures:
+    for check in check_code, check_files, check_scripts, check_clauses, check_commands, check_figures:
         check(file, content)
 for folder in ROOT / 'crates/iphead', ROOT / 'crates/ipcap':
     check_installed(folder)

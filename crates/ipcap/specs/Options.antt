@@ -1,5 +1,5 @@
 -- The options that there are, as the crate `clap` has them.
-use Rattle.std.specs.Prelude.{ℕ, List, [], ◌∷◌, ◌++◌, Some, codes, true}
+use Rattle.std.specs.Prelude.{ℕ, List, [], ◌∷◌, Some, codes, true}
 use Rattle.clap.specs.Lexer.{usize_max}
 use Rattle.clap.specs.Simple.{new_shape}
 use Rattle.clap.specs.Words.{App, Rule, new_app, new_rule}
@@ -36,16 +36,12 @@ expression = record (new_rule (codes "EXPRESSION")) {
   range = Some (record { start_inclusive = 0; end_inclusive = usize_max });
 }
 
--- the options without a value
-unfoldable pub flags : List Rule
-flags = flag (codes "count") ∷ flag (codes "quiet") ∷ numbers ∷ flag (codes "utc")
-    ∷ flag (codes "reassemble") ∷ []
-
 -- all options, and the words that are none: one, and any number after it
 unfoldable pub options : List Rule
 options =
-    (option_with_value (codes "read") 114 ∷ option_with_value (codes "write") 119 ∷ limit ∷ [])
-    ++ flags ++ file ∷ expression ∷ []
+    option_with_value (codes "read") 114 ∷ option_with_value (codes "write") 119 ∷ limit
+    ∷ flag (codes "count") ∷ flag (codes "quiet") ∷ numbers ∷ flag (codes "utc")
+    ∷ flag (codes "reassemble") ∷ file ∷ expression ∷ []
 
 abbrev pub app_with : List Rule → App
 app_with rules = record (new_app (codes "ipcap")) {

@@ -4,12 +4,12 @@ ghost use Rattle.std.specs.Prelude.{◌≡◌, ◌<◌, ◌≤◌, ◌++◌, ◌
 ghost use Rattle.std.specs.Prelude.{List, None, OnErr, OnOk, codes, false, length, map};
 ghost use Rattle.std.specs.Prelude.{string_bytes, true};
 ghost use Rattle.std.specs.List.{cons_option};
-ghost use Rattle.clap.specs.Words.{Rule, app_of, first_value, found_of, one_text, rule_of};
+ghost use Rattle.clap.specs.Words.{app_of, first_value, found_of, one_text, rule_of};
 ghost use Rattle.ipcap.specs.Arguments.{BeginsExpression, IsLimit, IsModeOf, NamesFile, NamesInput};
 ghost use Rattle.ipcap.specs.Arguments.{ReadsWords, RefusesMatches, arguments_error_text};
 ghost use Rattle.ipcap.specs.Arguments.{exclusion_of, is_given, joined, text_of, texts_of};
 ghost use Rattle.ipcap.specs.Arguments.{words_after};
-ghost use Rattle.ipcap.specs.Options.{app_with, expression, file, flag, flags, limit, numbers};
+ghost use Rattle.ipcap.specs.Options.{app_with, expression, file, flag, limit, numbers};
 ghost use Rattle.ipcap.specs.Options.{option_with_value, options};
 ghost use Rattle.ipcap.specs.Program.{HasNoMatches, IsCommandLine};
 
@@ -95,8 +95,8 @@ struct NoRoom;
 const AFTER_HELP: &str = "\
 FILE is read, a capture in the classic format or in pcapng; `-` and none are standard input. It is
 the first word that is no option, unless an expression can begin so (then `-r FILE` names the file).
-EXPRESSION chooses packets, by up to 64 words, most of those of pcap-filter(7): `tcp port 80 or udp
-port 53`; and by `fragment`, `first fragment` or `checksum wrong`.
+EXPRESSION chooses packets. It has up to 64 words: most words of pcap-filter(7), as in `tcp port 80
+or udp port 53`, and `fragment`, `first fragment` and `checksum wrong`.
 
 Link types: 0 (BSD loopback), 1 (Ethernet), 8 (SLIP), 9 and 50 (PPP), 12, 14, 101, 228 and 229
 (raw IP), 104 (Cisco HDLC), 105 and 127 (802.11), 107 (frame relay), 108 (OpenBSD loopback), 113
@@ -106,7 +106,8 @@ A line has these words:
   1 NUMBER  2 TIME  3 SOURCE  4 >  5 DESTINATION  6 PROTOCOL  7 PORTS or TYPE/CODE  8 length
   9 BYTES  10 hops  11 HOPS  12 fragment  13 PLACE  14 checksums  15 HEADER  16 PAYLOAD
 or after NUMBER and TIME `error:`, `other:` or `skipped:` and a reason. With --reassemble the line of
-the packet that completes a fragmented one is about the whole, and ends with `reassembled`.
+the packet that completes a fragmented one is about the whole, and ends with `reassembled`. A line
+can also end with `total length 0` or `cut CAPTURED/ORIGINAL`.
 
 Examples:
   ipcap trace.pcap                           a line for each packet
@@ -115,7 +116,8 @@ Examples:
   ipcap --reassemble trace.pcap              also what fragmented packets are as a whole
 
 Exit status: 0 done, 1 the capture is cut off or a block of it is refused, 2 the words are wrong, or
-the file cannot be opened or is no capture that is read, 3 a read or a write failed.";
+the file cannot be opened or is no capture that is read, 3 a read or a write failed, or there was no
+memory.";
 
 /// The options and the words that there are.
 ///
@@ -125,28 +127,23 @@ the file cannot be opened or is no capture that is read, 3 a read or a write fai
 pub fn command<'a>(alloc: Global) -> Result<Command<'a>, AllocError>
     ensures options { IfOk result (λ command. app_of command ≡ app_with options) }
 {
-    let command = Command::new(alloc, "ipcap")
+    let args = vec![in alloc;
+        with_value(alloc, "read", 'r', "FILE", "Read FILE; `-` is standard input"),
+        with_value(alloc, "write", 'w', "FILE", "Write the packets to FILE; `-` is standard output"),
+        limit(alloc),
+        flag(alloc, "count", "Print how many packets match, and nothing else"),
+        flag(alloc, "quiet", "Print the closing line alone, to standard output"),
+        numbers(alloc),
+        flag(alloc, "utc", "Print times as dates in UTC"),
+        flag(alloc, "reassemble", "Put fragmented packets together"),
+        file(alloc),
+        expression(alloc),
+    ]?;
+    Command::new(alloc, "ipcap")
         .version("0.1.0")
         .about("Lists the packets of a capture.")
         .after_help(AFTER_HELP)
-        .arg(with_value(
-            alloc,
-            "read",
-            'r',
-            "FILE",
-            "Read FILE; `-` is standard input",
-        ))?
-        .arg(with_value(
-            alloc,
-            "write",
-            'w',
-            "FILE",
-            "Write the packets to FILE; `-` is standard output",
-        ))?
-        .arg(limit(alloc))?;
-    with_flags(alloc, command)?
-        .arg(file(alloc))?
-        .arg(expression(alloc))
+        .args(args)
 }
 
 /// Reads the words of a command line, of which the first is the program's name.
@@ -164,31 +161,6 @@ pub fn read_words<'a>(
         (HasNoMatches (map string_bytes words.entry.now))) }
 {
     Ok(command(alloc)?.try_get_matches_from(words))
-}
-
-// A command with the options without a value, too.
-fn with_flags<'a>(alloc: Global, command: Command<'a>) -> Result<Command<'a>, AllocError>
-    ensures options { IfOk result (λ after. (rules : List Rule) →
-        app_of command.entry ≡ app_with rules → app_of after ≡ app_with (rules ++ flags)) }
-{
-    command
-        .arg(flag(
-            alloc,
-            "count",
-            "Print how many packets match, and nothing else",
-        ))?
-        .arg(flag(
-            alloc,
-            "quiet",
-            "Print the closing line alone, to standard output",
-        ))?
-        .arg(numbers(alloc))?
-        .arg(flag(alloc, "utc", "Print times as dates in UTC"))?
-        .arg(flag(
-            alloc,
-            "reassemble",
-            "Put packets together of their fragments",
-        ))
 }
 
 // An option with a value, by its letter.
@@ -211,7 +183,7 @@ fn with_value<'a>(
 fn limit<'a>(alloc: Global) -> Arg<'a>
     ensures rule { rule_of result ≡ limit }
 {
-    let help = "Stop after N packets that are listed";
+    let help = "Stop once N packets are listed";
     with_value(alloc, "limit", 'c', "N", help).value_parser(value_parser!(u64).range(1..))
 }
 
@@ -239,7 +211,7 @@ fn expression<'a>(alloc: Global) -> Arg<'a>
     Arg::new(alloc, "EXPRESSION")
         .action(ArgAction::Append)
         .num_args(0..)
-        .help("List the packets of which it is true")
+        .help("List the packets that match")
 }
 
 // An option without a value, by its long name.
