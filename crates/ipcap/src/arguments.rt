@@ -128,11 +128,31 @@ pub fn command<'a>(alloc: Global) -> Result<Command<'a>, AllocError>
     ensures options { IfOk result (λ command. app_of command ≡ app_with options) }
 {
     let args = vec![in alloc;
-        with_value(alloc, "read", 'r', "FILE", "Read FILE; `-` is standard input"),
-        with_value(alloc, "write", 'w', "FILE", "Write the packets to FILE; `-` is standard output"),
+        with_value(
+            alloc,
+            "read",
+            'r',
+            "FILE",
+            "Read FILE; `-` is standard input"
+        ),
+        with_value(
+            alloc,
+            "write",
+            'w',
+            "FILE",
+            "Write the packets to FILE; `-` is standard output"
+        ),
         limit(alloc),
-        flag(alloc, "count", "Print how many packets match, and nothing else"),
-        flag(alloc, "quiet", "Print the closing line alone, to standard output"),
+        flag(
+            alloc,
+            "count",
+            "Print how many packets match, and nothing else"
+        ),
+        flag(
+            alloc,
+            "quiet",
+            "Print the closing line alone, to standard output"
+        ),
         numbers(alloc),
         flag(alloc, "utc", "Print times as dates in UTC"),
         flag(alloc, "reassemble", "Put fragmented packets together"),

@@ -66,7 +66,8 @@ impl fmt::Display for Reason {
 
     #[tactic(auto, unfolding(crate::specs::Ends::block_error_text))]
     fn fmt<W: fmt::Write>(&self, f: &mut Formatter<W>) -> fmt::Result {
-        match self.0 {
+        let reason = self.0;
+        match reason {
             BlockError::CutOff(e) => {
                 let (required_len, len) = (e.required_len, e.len);
                 write!(f, "it needs {required_len} bytes, and there are {len}")

@@ -211,26 +211,16 @@ impl fmt::Display for NoPacket {
     ghost output = { λ reason. Some (no_packet_text reason) };
 
     fn fmt<W: fmt::Write>(&self, f: &mut Formatter<W>) -> fmt::Result {
-        match self {
-            NoPacket::NoLinkHeader(len) => {
-                let len = *len;
-                write!(f, "truncated link header ({len} bytes)")
-            }
+        match *self {
+            NoPacket::NoLinkHeader(len) => write!(f, "truncated link header ({len} bytes)"),
             NoPacket::OtherType(ether_type) => {
-                let ether_type = Hex(*ether_type);
+                let ether_type = Hex(ether_type);
                 write!(f, "type 0x{ether_type}")
             }
-            NoPacket::OtherFamily(family) => {
-                let family = *family;
-                write!(f, "family {family}")
-            }
-            NoPacket::OtherDevice(number) => {
-                let number = *number;
-                write!(f, "ARPHRD {number}")
-            }
-            NoPacket::OtherCarried(carried) => write_carried(f, *carried),
+            NoPacket::OtherFamily(family) => write!(f, "family {family}"),
+            NoPacket::OtherDevice(number) => write!(f, "ARPHRD {number}"),
+            NoPacket::OtherCarried(carried) => write_carried(f, carried),
             NoPacket::OtherLinkType(number) => {
-                let number = *number;
                 let name = Name(link_type_name(u32::from(number)));
                 write!(f, "link type {number}{name}")
             }
@@ -347,15 +337,9 @@ impl fmt::Display for Detail {
     ghost output = { λ detail. Some (detail_text detail) };
 
     fn fmt<W: fmt::Write>(&self, f: &mut Formatter<W>) -> fmt::Result {
-        match self {
-            Detail::Ports(source, destination) => {
-                let (source, destination) = (*source, *destination);
-                write!(f, "{source}>{destination}")
-            }
-            Detail::Message(kind, code) => {
-                let (kind, code) = (*kind, *code);
-                write!(f, "{kind}/{code}")
-            }
+        match *self {
+            Detail::Ports(source, destination) => write!(f, "{source}>{destination}"),
+            Detail::Message(kind, code) => write!(f, "{kind}/{code}"),
             Detail::Nothing => f.write_str("-"),
         }
     }
