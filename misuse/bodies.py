@@ -27,7 +27,7 @@ BODY = re.compile(r' *(\{|((pub(\(crate\))?|const|unsafe|extern "C") )*fn .*\{|\
 FUNCTION = re.compile(r'\bfn (\w+)')
 # Where an impl or a trait begins, with the type if the impl is no trait's; and a function that can be a stub: it is no `const fn`.
 OWNER = re.compile(r'(?:pub )?(?:unsafe )?(?:trait\b|impl(?:<[^>]*>)? (?:(\w+)(?:<[^>]*>)? \{$)?)')
-CALLABLE = re.compile(r'( *)(?:pub(?:\(\w+\))? )?fn (\w+)(?:<([^>]*)>)?\(')
+CALLABLE = re.compile(r'( *)(?:pub(?:\(\w+\))? )?fn (\w+)(?:<[^>]*>)?\(')
 TYPE = re.compile(r'^(?:pub(?:\(\w+\))? )?(?:struct|enum) (\w+)', re.M)
 # A proof that the function at a path of a crate meets its contract, with a hole for it.
 HOLE = 'use Rattle.{0}.proofs.{1}.Statement.{{statement}}\n\npub {2}_spec : {{M : Type 1}} → statement M\n{2}_spec = ?\n'
@@ -120,8 +120,8 @@ def changed(text, old):
 
 
 def callables(room):
-    """Yields the functions of a crate that stands in a folder, without methods of traits and what is generic or const: the file of
-    each, its path in the crate, and the lines at which its body begins and ends."""
+    """Yields the functions of a crate that stands in a folder, without methods of traits and const functions: the file of each, its path
+    in the crate, and the lines at which its body begins and ends."""
     texts = {file: file.read_text() for file in sorted(pathlib.Path(room, 'src').rglob('*.rt'))}
     parts = lambda file: file.relative_to(f'{room}/src').with_suffix('').parts
     place = {file: [it for it in parts(file) if it not in ('lib', 'main', 'mod')] for file in texts}
@@ -138,10 +138,9 @@ def callables(room):
             head = CALLABLE.match(line) or head
             if not head or not BODY.match(line) or re.match(' *', line)[0] != head[1]:
                 continue
-            (indent, name, lent), parameters = head.groups(default="'"), '\n'.join(lines[:at + 1]).rpartition(head[0])[2]
-            is_generic = 'impl ' in parameters or not all(it.lstrip().startswith("'") for it in lent.split(','))
-            head, end = None, lines.index(indent + '}', at)
-            if not is_trait and not is_generic and end > at + 1:
+            (indent, name), head = head.groups(), None
+            end = lines.index(indent + '}', at)
+            if not is_trait and end > at + 1:
                 yield file, [*home[owner], owner, name] if owner else [*place[file], name], at, end
 
 
