@@ -286,4 +286,5 @@ def main():
     sys.exit(bool(failed or not total))
 
 
-main()
+if __name__ == '__main__':
+    main()
