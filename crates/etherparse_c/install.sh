@@ -57,7 +57,8 @@ asked 'the commands of the page' 'lib --cpu=x86-64-v2'
 level x86-64-v2 'the commands of the page'
 # A program of the static library needs no folder of ours when it starts.
 gcc program.c $(pkg-config --cflags --libs etherparse)
-! ldd a.out | grep -q etherparse || fails "the program wants the shared object"
+ldd a.out > libraries.txt
+! grep -q etherparse libraries.txt || fails "the program wants the shared object"
 # What is installed links the worked values of each header file, both ways.
 for name in etherparse filter reassembly rewriting; do
   for module in etherparse etherparse-shared; do
@@ -66,8 +67,8 @@ for name in etherparse filter reassembly rewriting; do
   done
 done
 version=$(sed -n 's/^#define ETHERPARSE_VERSION "\(.*\)"/\1/p' include/etherparse.h)
-LD_LIBRARY_PATH=$fresh/usr/lib ldd cases | grep -qF "libetherparse_c.so.${version%%.*} =>" ||
-  fails "the shared object has another name"
+LD_LIBRARY_PATH=$fresh/usr/lib ldd cases > libraries.txt
+grep -qF "libetherparse_c.so.${version%%.*} =>" libraries.txt || fails "the shared object has another name"
 
 # Each runs `rt` only if the library is not there, is for another level, or is older than a source.
 make > said.txt 2>&1 && asked 'a second make' 'lib --cpu=x86-64-v2'
