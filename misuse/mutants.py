@@ -3,8 +3,9 @@
 
 It tries them in one check, on a copy of a crate that `rt ci` has just proved: an operator, a number, a condition, a pair of arguments or
 of names is another one, chosen by the seed. What does not compile is left out. A function that is still proved means what it meant, or
-its contract lets a wrong body through: look at it. Methods of traits and const functions stay as they are. No gate needs it; a check
-takes one to ten minutes. The last line is 'N refused, M proved, K do not compile'.
+its contract lets a wrong body through: look at it. Methods of traits and const functions stay as they are. No gate needs it. A check
+takes one to ten minutes, but with some seeds a search takes far longer: then try another. The last line is 'N refused, M proved, K do
+not compile'.
 """
 import pathlib
 import random
