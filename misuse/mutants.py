@@ -36,7 +36,7 @@ def mutants(line):
     """Returns what a line can become by one change."""
     if '"' in line or line.lstrip().startswith('//'):
         return []
-    return [line[:it.start()] + it.expand(after) + line[it.end():] if isinstance(after, str) else line[:it.start()] + after(it) + line[it.end():]
+    return [line[:it.start()] + (after(it) if callable(after) else it.expand(after)) + line[it.end():]
             for before, after in CHANGES for it in before.finditer(line)]
 
 
