@@ -3,9 +3,9 @@
 
 Each is tried on a copy of its crate, which `rt ci` has just proved: a check of the function whose contract speaks of it has to
 refuse that function. Of the functions that it calls only the contracts are there: their bodies are stubs in the copy, and their
-proofs holes. So one check tries the bodies of different functions together, also of different libraries, if none stands on another:
-a check takes 10 seconds before its first function. README.md says how a body is written. As many checks are made at a time as there
-are processors, up to four. The last line is 'N passed, M failed'.
+proofs holes. So one check tries the bodies of different functions together, in the gate also of different libraries: a check takes 10
+seconds before its first function. README.md says how a body is written. As many checks are made at a time as there are processors,
+up to four. The last line is 'N passed, M failed'.
 """
 import concurrent.futures
 import functools
@@ -22,6 +22,12 @@ HERE = pathlib.Path(__file__).resolve().parent
 BODIES = HERE / 'bodies'
 CRATES = HERE.parent / 'crates'
 KIT = pathlib.Path(shutil.which('rt')).resolve().parents[1]
+# Libraries whose bodies the gate tries together, each before those that stand on it. What stands between two of them is there too.
+TOGETHER = [
+    ['packet_links', 'etherparse_base', 'etherparse_fields'],
+    ['packet_capture', 'etherparse_link', 'etherparse_net', 'packet_parts'],
+    ['etherparse_icmp', 'packet_reassembly', 'etherparse_transport', 'packet_rewriting', 'packet', 'packet_builder', 'packet_filter'],
+]
 # The line at which the body of a function begins, its name in the line before its parameters, and a line that names a place.
 BODY = re.compile(r' *(\{|((pub(\(crate\))?|const|unsafe|extern "C") )*fn .*\{|\) (-> .* )?\{)$')
 FUNCTION = re.compile(r'\bfn (\w+)')
@@ -69,18 +75,9 @@ def is_static(crate):
     return f'{crate} staticlib:' in (HERE.parent / 'crates.txt').read_text()
 
 
-def height(crate):
-    """Returns how many crates of the repository stand on one another below a crate, at the most."""
-    return max((height(it) + 1 for it in below()[crate] if it in below()), default=0)
-
-
-def is_library(crate):
-    return (CRATES / crate / 'src/lib.rt').is_file() and not is_static(crate)
-
-
 def words(crates):
     """what the checker has to know beside these crates: their libraries as they were built, and how it is to check"""
-    used = sorted({'std', *[it for crate in crates for it in below()[crate]]})
+    used = sorted({'std', *[it for crate in crates for it in below()[crate]]} - {*crates})
     at = lambda name: next(it for it in (KIT / 'rlibs' / f'{name}.rlib', CRATES / name / 'out/rlib' / f'{name}.rlib') if it.is_dir())
     return [
         *[word for name in used for word in ('--extern', f'{name}={at(name)}')],
@@ -92,15 +89,15 @@ def words(crates):
 
 
 def check(room, kept, functions):
-    """Checks functions of crates, which stand side by side in a folder, and keeps what was proved in another. The first crate is the one
+    """Checks functions of crates, which stand side by side in a folder, and keeps what was proved in another. The last crate is the one
     that is checked; the others are libraries that it is passed as source. Stubs have holes for proofs."""
-    first, *others = functions
+    *others, last = functions
     only = ['--allow-holes', *[word for it in others for word in ('--lib', f'{it}=../{it}/src/lib.rt')]]
     only += [word for crate, its in functions.items() for it in sorted(its) for word in ('--only', f'{crate}::{it}')]
-    root = next(it for it in ('src/lib.rt', 'src/main.rt') if pathlib.Path(room, first, it).is_file())
-    os.makedirs(f'{kept}/{first}', exist_ok=True)
-    command = [KIT / 'bin/rattle', 'check', '--crate-name', first, root, *words(functions), *only, '--incremental', f'{kept}/{first}']
-    return subprocess.run(command, cwd=f'{room}/{first}', text=True, stdout=subprocess.PIPE, stderr=subprocess.STDOUT)
+    root = next(it for it in ('src/lib.rt', 'src/main.rt') if pathlib.Path(room, last, it).is_file())
+    os.makedirs(f'{kept}/{last}', exist_ok=True)
+    command = [KIT / 'bin/rattle', 'check', '--crate-name', last, root, *words(functions), *only, '--incremental', f'{kept}/{last}']
+    return subprocess.run(command, cwd=f'{room}/{last}', text=True, stdout=subprocess.PIPE, stderr=subprocess.STDOUT)
 
 
 def changed(text, old):
@@ -229,7 +226,7 @@ def why_failed(group, whole, kept):
     for crate, body in ((crate, body) for crate, bodies in group.items() for body in bodies):
         not_proved = refused(crate, ran.stdout)
         own = not_proved & set(read(body)[0])
-        said = [line for it in own for line in told(crate, it, lines, crate != next(iter(group)))]
+        said = [line for it in own for line in told(crate, it, lines, crate != [*group][-1])]
         said += [line for line in lines if LEMMA.match(line) and is_alone]
         if ran.returncode == 0 or ran.returncode == 1 and not own:
             found[body] = 'it is proved'
@@ -243,7 +240,7 @@ def why_failed(group, whole, kept):
 
 
 def tried(bodies):
-    """Returns for each of the bodies of some crates, none of which stands on another, why it failed, or nothing."""
+    """Returns for each of the bodies of some crates why it failed, or nothing."""
     with tempfile.TemporaryDirectory() as room:
         whole, kept, found, by_crate = f'{room}/whole', f'{room}/kept', {}, {}
         for crate, its in bodies.items():
@@ -260,20 +257,21 @@ def tried(bodies):
             by_crate[crate] = groups(crate, [body for body in its if body not in found])
         for turn in itertools.zip_longest(*by_crate.values()):
             group = {crate: its for crate, its in zip(by_crate, turn) if its}
-            came = why_failed(group, whole, kept)
-            for crate, body in ((crate, body) for crate, its in group.items() for body in its):
-                # (it may be the fault of another)
-                found[body] = why_failed({crate: [body]}, whole, kept)[body] if came[body] and len(came) > 1 else came[body]
+            # (without all of them, what stands between two would not be there)
+            for part in [group] if len(group) == len(bodies) else [{crate: its} for crate, its in group.items()]:
+                came = why_failed(part, whole, kept)
+                for crate, body in ((crate, body) for crate, its in part.items() for body in its):
+                    # (it may be the fault of another)
+                    found[body] = why_failed({crate: [body]}, whole, kept)[body] if came[body] and len(came) > 1 else came[body]
         return found
 
 
 def main():
     pattern, crates = ('**/*.edit', sys.argv[1:]) if sys.argv[1:] else ('*.edit', sorted(it.name for it in BODIES.iterdir()))
     bodies = {crate: its for crate in crates if (its := sorted((BODIES / crate).glob(pattern)))}
-    together = {}
-    for crate in sorted(bodies):
-        together.setdefault(height(crate) if is_library(crate) else crate, {})[crate] = bodies[crate]
-    together = sorted(together.values(), key=lambda its: -sum(map(len, its.values())))
+    groups_of = [] if sys.argv[1:] else TOGETHER
+    groups_of = [*groups_of, *([crate] for crate in bodies if not any(crate in its for its in groups_of))]
+    together = sorted(({crate: bodies[crate] for crate in its} for its in groups_of), key=lambda its: -sum(map(len, its.values())))
     failed = 0
     with concurrent.futures.ThreadPoolExecutor(min(4, os.cpu_count())) as pool:
         for its, found in zip(together, pool.map(tried, together)):

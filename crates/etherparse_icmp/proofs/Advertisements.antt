@@ -9,8 +9,8 @@ use Rattle.etherparse.specs.Bytes.{IsBytes}
 use Rattle.etherparse_icmp.specs.Advertisements.{HasNeighborAdvertisement, HasRouterAdvertisement}
 use Rattle.etherparse_icmp.specs.Advertisements.{neighbor_advertisement_cleared}
 use Rattle.etherparse_icmp.specs.Advertisements.{router_advertisement_cleared}
-use Rattle.etherparse_icmp.specs.declared.icmpv6.neighbor_advertisement_header.NeighborAdvertisementHeader.{NeighborAdvertisementHeader}
-use Rattle.etherparse_icmp.specs.declared.icmpv6.router_advertisement_header.RouterAdvertisementHeader.{RouterAdvertisementHeader}
+use Rattle.etherparse_icmp.specs.declared.icmpv6.neighbor.NeighborAdvertisementHeader.{NeighborAdvertisementHeader}
+use Rattle.etherparse_icmp.specs.declared.icmpv6.router.RouterAdvertisementHeader.{RouterAdvertisementHeader}
 
 -- a flag is a bit as a number
 flag_is : (n : ℕ) → n < 2 → from_bool (n == 1) ≡ n

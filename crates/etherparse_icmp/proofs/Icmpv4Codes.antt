@@ -10,11 +10,11 @@ use Rattle.etherparse_icmp.specs.Icmpv4Codes.{IsNextHopMtu, IsPointer, problem_c
 use Rattle.etherparse_icmp.specs.Icmpv4Codes.{unreachable_cleared}
 use Rattle.etherparse_icmp.specs.Icmpv4Codes.{dest_unreachable_number, parameter_problem_number}
 use Rattle.etherparse_icmp.specs.Icmpv4Codes.{redirect_number, time_exceeded_number}
-use Rattle.etherparse_icmp.specs.declared.icmpv4.dest_unreachable_header.DestUnreachableHeader.{DestUnreachableHeader}
-use Rattle.etherparse_icmp.specs.declared.icmpv4.dest_unreachable_header.DestUnreachableHeader.TheVariants
+use Rattle.etherparse_icmp.specs.declared.icmpv4.unreachable.DestUnreachableHeader.{DestUnreachableHeader}
+use Rattle.etherparse_icmp.specs.declared.icmpv4.unreachable.DestUnreachableHeader.TheVariants
     as unreachable
-use Rattle.etherparse_icmp.specs.declared.icmpv4.parameter_problem_header.ParameterProblemHeader.{ParameterProblemHeader}
-use Rattle.etherparse_icmp.specs.declared.icmpv4.parameter_problem_header.ParameterProblemHeader.TheVariants
+use Rattle.etherparse_icmp.specs.declared.icmpv4.problem.ParameterProblemHeader.{ParameterProblemHeader}
+use Rattle.etherparse_icmp.specs.declared.icmpv4.problem.ParameterProblemHeader.TheVariants
     as problem
 use Rattle.etherparse_icmp.specs.declared.icmpv4.redirect_code.RedirectCode.{RedirectCode}
 use Rattle.etherparse_icmp.specs.declared.icmpv4.redirect_code.RedirectCode.TheVariants as redirect

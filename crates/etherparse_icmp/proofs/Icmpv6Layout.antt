@@ -23,11 +23,11 @@ use Rattle.etherparse_icmp.specs.Icmpv6.{SaysIcmpv6}
 use Rattle.etherparse_icmp.specs.Icmpv6.{icmpv6_cleared, icmpv6_code_number, icmpv6_type_number}
 use Rattle.etherparse_icmp.specs.Icmpv6Codes.{dest_unreachable_number, parameter_problem_number}
 use Rattle.etherparse_icmp.specs.Icmpv6Codes.{time_exceeded_number}
-use Rattle.etherparse_icmp.specs.declared.icmpv6.dest_unreachable_code.DestUnreachableCode.{DestUnreachableCode}
-use Rattle.etherparse_icmp.specs.declared.icmpv6.dest_unreachable_code.DestUnreachableCode.TheVariants
+use Rattle.etherparse_icmp.specs.declared.icmpv6.unreachable.DestUnreachableCode.{DestUnreachableCode}
+use Rattle.etherparse_icmp.specs.declared.icmpv6.unreachable.DestUnreachableCode.TheVariants
     as unreachable
-use Rattle.etherparse_icmp.specs.declared.icmpv6.parameter_problem_code.ParameterProblemCode.{ParameterProblemCode}
-use Rattle.etherparse_icmp.specs.declared.icmpv6.parameter_problem_code.ParameterProblemCode.TheVariants
+use Rattle.etherparse_icmp.specs.declared.icmpv6.problem_code.ParameterProblemCode.{ParameterProblemCode}
+use Rattle.etherparse_icmp.specs.declared.icmpv6.problem_code.ParameterProblemCode.TheVariants
     as problem
 use Rattle.etherparse_icmp.specs.declared.icmpv6.time_exceeded_code.TimeExceededCode.{TimeExceededCode}
 use Rattle.etherparse_icmp.specs.declared.icmpv6.time_exceeded_code.TimeExceededCode.TheVariants

@@ -2,10 +2,10 @@
 use Rattle.std.specs.Prelude.{ℕ, ◌≡◌, ◌==◌, ◌*◌, ◌/◌, ◌%◌, ◌^◌, List, [], ◌∷◌, drop, slice_index}
 use Rattle.std.specs.Prelude.{slice_range}
 use Rattle.std.specs.Int.{from_be_bytes, w16}
-use Rattle.etherparse_icmp.specs.declared.icmpv6.neighbor_advertisement_header.NeighborAdvertisementHeader.{
+use Rattle.etherparse_icmp.specs.declared.icmpv6.neighbor.NeighborAdvertisementHeader.{
   NeighborAdvertisementHeader,
 }
-use Rattle.etherparse_icmp.specs.declared.icmpv6.router_advertisement_header.RouterAdvertisementHeader.{
+use Rattle.etherparse_icmp.specs.declared.icmpv6.router.RouterAdvertisementHeader.{
   RouterAdvertisementHeader,
 }
 

@@ -1,15 +1,15 @@
 -- The numbers of the codes of ICMP, and what only some of them have (RFC 792, RFC 1122 section
 -- 3.2.2, RFC 1191 section 4, RFC 1812 section 5.2.7).
 use Rattle.std.specs.Prelude.{ℕ, ◌≡◌, List, [], ◌∷◌, drop, slice_index}
-use Rattle.etherparse_icmp.specs.declared.icmpv4.dest_unreachable_header.DestUnreachableHeader.{
+use Rattle.etherparse_icmp.specs.declared.icmpv4.unreachable.DestUnreachableHeader.{
   DestUnreachableHeader,
 }
-use Rattle.etherparse_icmp.specs.declared.icmpv4.dest_unreachable_header.DestUnreachableHeader.TheVariants
+use Rattle.etherparse_icmp.specs.declared.icmpv4.unreachable.DestUnreachableHeader.TheVariants
     as unreachable
-use Rattle.etherparse_icmp.specs.declared.icmpv4.parameter_problem_header.ParameterProblemHeader.{
+use Rattle.etherparse_icmp.specs.declared.icmpv4.problem.ParameterProblemHeader.{
   ParameterProblemHeader,
 }
-use Rattle.etherparse_icmp.specs.declared.icmpv4.parameter_problem_header.ParameterProblemHeader.TheVariants
+use Rattle.etherparse_icmp.specs.declared.icmpv4.problem.ParameterProblemHeader.TheVariants
     as problem
 use Rattle.etherparse_icmp.specs.declared.icmpv4.redirect_code.RedirectCode.{RedirectCode}
 use Rattle.etherparse_icmp.specs.declared.icmpv4.redirect_code.RedirectCode.TheVariants

@@ -1,15 +1,15 @@
 -- The numbers of the codes of ICMPv6 (RFC 4443 sections 3.1, 3.3 and 3.4, RFC 7112, RFC 8754, RFC
 -- 8883).
 use Rattle.std.specs.Prelude.{ℕ}
-use Rattle.etherparse_icmp.specs.declared.icmpv6.dest_unreachable_code.DestUnreachableCode.{
+use Rattle.etherparse_icmp.specs.declared.icmpv6.unreachable.DestUnreachableCode.{
   DestUnreachableCode,
 }
-use Rattle.etherparse_icmp.specs.declared.icmpv6.dest_unreachable_code.DestUnreachableCode.TheVariants
+use Rattle.etherparse_icmp.specs.declared.icmpv6.unreachable.DestUnreachableCode.TheVariants
     as unreachable
-use Rattle.etherparse_icmp.specs.declared.icmpv6.parameter_problem_code.ParameterProblemCode.{
+use Rattle.etherparse_icmp.specs.declared.icmpv6.problem_code.ParameterProblemCode.{
   ParameterProblemCode,
 }
-use Rattle.etherparse_icmp.specs.declared.icmpv6.parameter_problem_code.ParameterProblemCode.TheVariants
+use Rattle.etherparse_icmp.specs.declared.icmpv6.problem_code.ParameterProblemCode.TheVariants
     as problem
 use Rattle.etherparse_icmp.specs.declared.icmpv6.time_exceeded_code.TimeExceededCode.{
   TimeExceededCode,

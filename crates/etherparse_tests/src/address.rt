@@ -3,45 +3,34 @@
 
 use crate::shared::assert_equal;
 use packet_parts::address::Ipv6Text;
-use std::alloc::Global;
-use std::process::Abort;
 
-static CASES: [([u16; 8], &str); 9] = [
-    ([0; 8], "::"),
-    ([0, 0, 0, 0, 0, 0, 0, 1], "::1"),
-    ([0xff01, 0, 0, 0, 0, 0, 0, 0x101], "ff01::101"),
+// Each address as a number of 128 bits, and its text.
+static CASES: [(u128, &str); 9] = [
+    (0, "::"),
+    (1, "::1"),
+    (0xff01_0000_0000_0000_0000_0000_0000_0101, "ff01::101"),
+    (0xffff_8190_3426, "::ffff:129.144.52.38"),
     (
-        [0, 0, 0, 0, 0, 0xffff, 0x8190, 0x3426],
-        "::ffff:129.144.52.38",
-    ),
-    (
-        [
-            0xabcd, 0xef01, 0x2345, 0x6789, 0xabcd, 0xef01, 0x2345, 0x6789,
-        ],
+        0xabcd_ef01_2345_6789_abcd_ef01_2345_6789,
         "abcd:ef01:2345:6789:abcd:ef01:2345:6789",
     ),
-    ([0x2001, 0xdb8, 0, 0, 0, 0, 2, 1], "2001:db8::2:1"),
-    ([0x2001, 0xdb8, 0, 1, 1, 1, 1, 1], "2001:db8:0:1:1:1:1:1"),
-    ([0x2001, 0, 0, 1, 0, 0, 0, 1], "2001:0:0:1::1"),
-    ([0x2001, 0xdb8, 0, 0, 1, 0, 0, 1], "2001:db8::1:0:0:1"),
+    (0x2001_0db8_0000_0000_0000_0000_0002_0001, "2001:db8::2:1"),
+    (
+        0x2001_0db8_0000_0001_0001_0001_0001_0001,
+        "2001:db8:0:1:1:1:1:1",
+    ),
+    (0x2001_0000_0000_0001_0000_0000_0000_0001, "2001:0:0:1::1"),
+    (
+        0x2001_0db8_0000_0000_0001_0000_0000_0001,
+        "2001:db8::1:0:0:1",
+    ),
 ];
-
-fn octets_of(fields: &[u16; 8]) -> [u8; 16] {
-    let mut octets = [0; 16];
-    for (place, field) in fields.iter().enumerate() {
-        [octets[2 * place], octets[2 * place + 1]] = field.to_be_bytes();
-    }
-    octets
-}
-
-fn assert_prints(rt: &impl Abort, alloc: Global, octets: [u8; 16], text: &str) {
-    let printed = format!(in alloc; "{}", Ipv6Text(octets)).expect(rt, "a text");
-    assert_equal(rt, printed.as_str(), text);
-}
 
 #[test]
 fn addresses_as_rfc_5952_recommends(rt: HostRuntime) {
-    for (fields, text) in &CASES {
-        assert_prints(&rt, rt.alloc(), octets_of(fields), text);
+    for (number, text) in &CASES {
+        let printed = format!(in rt.alloc(); "{}", Ipv6Text(number.to_be_bytes()));
+        let printed = printed.expect(&rt, "a text");
+        assert_equal(&rt, printed.as_str(), text);
     }
 }

@@ -28,13 +28,10 @@ impl fmt::Display for TcpError {
     fn fmt<W: fmt::Write>(&self, f: &mut fmt::Formatter<W>) -> fmt::Result {
         match self {
             TcpError::Len(e) => fmt::Display::fmt(e, f),
-            TcpError::DataOffset(data_offset) => {
-                let data_offset = *data_offset;
-                write!(
-                    f,
-                    "TCP Header Error: Data offset {data_offset} is less than 5."
-                )
-            }
+            &TcpError::DataOffset(data_offset) => write!(
+                f,
+                "TCP Header Error: Data offset {data_offset} is less than 5."
+            ),
         }
     }
 }

@@ -33,28 +33,21 @@ impl fmt::Display for TcpOptionReadError {
     ghost output = { λ error. Some (read_error_text error) };
 
     fn fmt<W: fmt::Write>(&self, f: &mut fmt::Formatter<W>) -> fmt::Result {
-        match self {
+        match *self {
             TcpOptionReadError::UnexpectedEndOfSlice {
                 option_id,
                 expected_len,
                 actual_len,
-            } => {
-                let (kind, expected, actual) = (*option_id, *expected_len, *actual_len);
-                write!(
-                    f,
-                    "TCP option of kind {kind} needs {expected} bytes, but only {actual} are left."
-                )
-            }
-            TcpOptionReadError::UnexpectedSize { option_id, size } => {
-                let (kind, len) = (*option_id, *size);
-                write!(
-                    f,
-                    "TCP option of kind {kind} has the length {len}, which its kind does not allow."
-                )
-            }
+            } => write!(
+                f,
+                "TCP option of kind {option_id} needs {expected_len} bytes, but only {actual_len} are left."
+            ),
+            TcpOptionReadError::UnexpectedSize { option_id, size } => write!(
+                f,
+                "TCP option of kind {option_id} has the length {size}, which its kind does not allow."
+            ),
             TcpOptionReadError::UnknownId(option_id) => {
-                let kind = *option_id;
-                write!(f, "TCP option of kind {kind} is not known.")
+                write!(f, "TCP option of kind {option_id} is not known.")
             }
         }
     }

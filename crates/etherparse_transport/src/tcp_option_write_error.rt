@@ -16,14 +16,11 @@ impl fmt::Display for TcpOptionWriteError {
     ghost output = { λ error. Some (write_error_text error) };
 
     fn fmt<W: fmt::Write>(&self, f: &mut fmt::Formatter<W>) -> fmt::Result {
-        match self {
-            TcpOptionWriteError::NotEnoughSpace(len) => {
-                let len = *len;
-                write!(
-                    f,
-                    "TCP options of {len} bytes do not fit into the 40 of a header."
-                )
-            }
+        match *self {
+            TcpOptionWriteError::NotEnoughSpace(len) => write!(
+                f,
+                "TCP options of {len} bytes do not fit into the 40 of a header."
+            ),
         }
     }
 }

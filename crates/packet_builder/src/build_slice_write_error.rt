@@ -29,13 +29,10 @@ impl fmt::Display for BuildSliceWriteError {
             BuildSliceWriteError::Icmpv6InIpv4 => {
                 f.write_str("A message of ICMPv6 cannot follow an IPv4 header.")
             }
-            BuildSliceWriteError::Space(required_len) => {
-                let required_len = *required_len;
-                write!(
-                    f,
-                    "Not enough space to write packet to slice. Needed {required_len} byte(s)."
-                )
-            }
+            &BuildSliceWriteError::Space(required_len) => write!(
+                f,
+                "Not enough space to write packet to slice. Needed {required_len} byte(s)."
+            ),
         }
     }
 }

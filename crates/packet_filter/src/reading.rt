@@ -78,42 +78,30 @@ impl fmt::Display for FilterError {
     ghost output = { λ error. Some (filter_error_text error) };
 
     fn fmt<W: fmt::Write>(&self, f: &mut fmt::Formatter<W>) -> fmt::Result {
-        match self {
-            FilterError::Unexpected { place, expected } => {
-                let (place, expected) = (*place, *expected);
-                write!(
-                    f,
-                    "Expression Error: The word at byte {place} cannot stand there: expected {expected}."
-                )
-            }
+        match *self {
+            FilterError::Unexpected { place, expected } => write!(
+                f,
+                "Expression Error: The word at byte {place} cannot stand there: expected {expected}."
+            ),
             FilterError::Mixed { place, operator } => {
-                let (place, readings) = (*place, Readings(*operator));
+                let readings = Readings(operator);
                 write!(
                     f,
                     "Expression Error: `and` and `or` stand together at byte {place}: parentheses have to say which comes first, as in {readings}."
                 )
             }
-            FilterError::Unsupported { place } => {
-                let place = *place;
-                write!(
-                    f,
-                    "Expression Error: The word of pcap-filter(7) at byte {place} is not part of the language."
-                )
-            }
-            FilterError::Incomplete { expected } => {
-                let expected = *expected;
-                write!(
-                    f,
-                    "Expression Error: It ends where more words have to follow: expected {expected}."
-                )
-            }
-            FilterError::TooLong { place } => {
-                let place = *place;
-                write!(
-                    f,
-                    "Expression Error: It has more than 64 words: the first beyond them is at byte {place}."
-                )
-            }
+            FilterError::Unsupported { place } => write!(
+                f,
+                "Expression Error: The word of pcap-filter(7) at byte {place} is not part of the language."
+            ),
+            FilterError::Incomplete { expected } => write!(
+                f,
+                "Expression Error: It ends where more words have to follow: expected {expected}."
+            ),
+            FilterError::TooLong { place } => write!(
+                f,
+                "Expression Error: It has more than 64 words: the first beyond them is at byte {place}."
+            ),
         }
     }
 }

@@ -34,11 +34,11 @@ impl fmt::Display for Verdict {
     ghost styled_output = { λ verdict _. Some (verdict_text verdict) };
 
     fn fmt<W: fmt::Write>(&self, f: &mut fmt::Formatter<W>) -> fmt::Result {
-        match self {
-            Verdict::Right => f.write_str("right"),
-            Verdict::Wrong => f.write_str("wrong"),
-            Verdict::Absent(_) => f.write_str("none"),
-        }
+        f.write_str(match self {
+            Verdict::Right => "right",
+            Verdict::Wrong => "wrong",
+            Verdict::Absent(_) => "none",
+        })
     }
 }
 

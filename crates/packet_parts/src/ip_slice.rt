@@ -88,10 +88,10 @@ impl fmt::Display for IpSliceError {
     fn fmt<W: fmt::Write>(&self, f: &mut fmt::Formatter<W>) -> fmt::Result {
         match self {
             IpSliceError::Empty(e) => fmt::Display::fmt(e, f),
-            IpSliceError::UnexpectedVersion { version_number } => {
-                let version = *version_number;
-                write!(f, "IP Header Error: Version {version} is neither 4 nor 6.")
-            }
+            &IpSliceError::UnexpectedVersion { version_number } => write!(
+                f,
+                "IP Header Error: Version {version_number} is neither 4 nor 6."
+            ),
             IpSliceError::Ipv4Header(e) => fmt::Display::fmt(e, f),
             IpSliceError::Ipv6Header(e) => fmt::Display::fmt(e, f),
             IpSliceError::Packet(e) => fmt::Display::fmt(e, f),

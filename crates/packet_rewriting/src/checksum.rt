@@ -41,17 +41,17 @@ impl fmt::Display for ChecksumError {
     ghost styled_output = { λ error _. Some (checksum_error_text error) };
 
     fn fmt<W: fmt::Write>(&self, f: &mut fmt::Formatter<W>) -> fmt::Result {
-        match self {
+        f.write_str(match self {
             ChecksumError::OtherProtocol => {
-                f.write_str("Checksum Error: The protocol has no checksum that is known here.")
+                "Checksum Error: The protocol has no checksum that is known here."
             }
             ChecksumError::Incomplete => {
-                f.write_str("Checksum Error: Not all bytes that the checksum covers are there.")
+                "Checksum Error: Not all bytes that the checksum covers are there."
             }
             ChecksumError::TooLong => {
-                f.write_str("Checksum Error: The pseudo-header has no room for the length.")
+                "Checksum Error: The pseudo-header has no room for the length."
             }
-        }
+        })
     }
 }
 

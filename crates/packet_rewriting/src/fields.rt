@@ -59,21 +59,19 @@ impl fmt::Display for RewriteError {
     ghost styled_output = { λ error _. text_in_any_style error };
 
     fn fmt<W: fmt::Write>(&self, f: &mut fmt::Formatter<W>) -> fmt::Result {
-        match self {
-            RewriteError::Ip(e) => fmt::Display::fmt(e, f),
-            RewriteError::OtherVersion => {
-                f.write_str("Rewrite Error: The packet has the other IP version.")
-            }
+        f.write_str(match self {
+            RewriteError::Ip(e) => return fmt::Display::fmt(e, f),
+            RewriteError::OtherVersion => "Rewrite Error: The packet has the other IP version.",
             RewriteError::Incomplete => {
-                f.write_str("Rewrite Error: The packet ends within the header of its upper layer.")
+                "Rewrite Error: The packet ends within the header of its upper layer."
             }
             RewriteError::LaterFragment => {
-                f.write_str("Rewrite Error: The packet is a later fragment, which has no ports.")
+                "Rewrite Error: The packet is a later fragment, which has no ports."
             }
             RewriteError::OtherProtocol => {
-                f.write_str("Rewrite Error: The packet carries neither UDP nor TCP.")
+                "Rewrite Error: The packet carries neither UDP nor TCP."
             }
-        }
+        })
     }
 }
 

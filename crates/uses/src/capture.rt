@@ -10,7 +10,7 @@ use packet_parts::checksum::Verdict;
 use packet_parts::ip_slice::IpSlice;
 
 /// Why a capture is not read to its end.
-#[derive(Clone, Copy, Debug, PartialEq, Eq)]
+#[derive(Clone, Copy)]
 pub enum Refusal {
     /// It does not begin with a file header.
     Header(CaptureError),

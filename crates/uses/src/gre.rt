@@ -12,7 +12,7 @@ use arrayvec::ArrayVec;
 use etherparse::checksum::Sum16BitWords;
 
 /// A GRE header. Each optional field is there if its flag is set: C, K or S.
-#[derive(Clone, Copy, Debug, PartialEq, Eq)]
+#[derive(Clone, Copy)]
 pub struct GreHeader {
     /// The EtherType of the payload: 0x0800 for IPv4.
     pub protocol_type: u16,
@@ -22,14 +22,14 @@ pub struct GreHeader {
 }
 
 /// Why there is no GRE header, and where it would start: bytes from the start of the parsed data.
-#[derive(Clone, Copy, Debug, PartialEq, Eq)]
+#[derive(Clone, Copy)]
 pub struct GreError {
     pub cause: GreCause,
     pub offset: usize,
 }
 
 /// Why bytes do not begin with a GRE header.
-#[derive(Clone, Copy, Debug, PartialEq, Eq)]
+#[derive(Clone, Copy)]
 pub enum GreCause {
     /// There are `len` of the `required_len` bytes.
     TooShort { required_len: usize, len: usize },

@@ -12,7 +12,6 @@ pub mod frame;
 pub mod gre;
 pub mod ipv4_view;
 pub mod ipv6_view;
-mod laws;
 pub mod monitor;
 pub mod options;
 pub mod payload;

@@ -7,7 +7,7 @@ ghost use Rattle.uses.specs.Monitor.{HasPoolAfter, IsSeen, WritesSeen};
 use packet_reassembly::ip_defrag_pool::{DatagramState, IpDefragPool};
 
 /// What the monitor has of a packet that it sees.
-#[derive(Clone, Copy, Debug, PartialEq, Eq)]
+#[derive(Clone, Copy)]
 pub enum Seen {
     /// The packet itself, which is whole.
     Whole,

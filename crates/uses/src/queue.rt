@@ -8,7 +8,7 @@ ghost use Rattle.uses.specs.Queue.{queue_for};
 use etherparse::{IpDscp, IpDscpKnown};
 
 /// When a packet is served.
-#[derive(Clone, Copy, Debug, PartialEq, Eq)]
+#[derive(Clone, Copy)]
 pub enum Queue {
     /// Ahead of all others.
     First,

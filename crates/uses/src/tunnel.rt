@@ -49,7 +49,7 @@ pub fn inner_reason(
 }
 
 /// Why a packet with a GRE header in it is not read; an error has its place in the whole packet.
-#[derive(Clone, Debug, PartialEq, Eq, Drop)]
+#[derive(Drop)]
 pub enum TunnelError {
     Ipv4(ipv4::HeaderSliceError),
     Gre(GreError),

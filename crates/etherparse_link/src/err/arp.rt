@@ -46,7 +46,7 @@ impl fmt::Display for ArpHwAddrError {
     ghost output = { λ e. Some (arp_hw_addr_error_text e) };
 
     fn fmt<W: fmt::Write>(&self, f: &mut fmt::Formatter<W>) -> fmt::Result {
-        match self {
+        match *self {
             ArpHwAddrError::LenNonMatching(sender, target) => write!(
                 f,
                 "ARP Error: The sender hardware address has '{sender}' byte(s), the target hardware address '{target}'."
@@ -75,7 +75,7 @@ impl fmt::Display for ArpProtoAddrError {
     ghost output = { λ e. Some (arp_proto_addr_error_text e) };
 
     fn fmt<W: fmt::Write>(&self, f: &mut fmt::Formatter<W>) -> fmt::Result {
-        match self {
+        match *self {
             ArpProtoAddrError::LenNonMatching(sender, target) => write!(
                 f,
                 "ARP Error: The sender protocol address has '{sender}' byte(s), the target protocol address '{target}'."
@@ -108,21 +108,15 @@ impl fmt::Display for ArpEthIpv4FromError {
     ghost output = { λ e. Some (arp_eth_ipv4_from_error_text e) };
 
     fn fmt<W: fmt::Write>(&self, f: &mut fmt::Formatter<W>) -> fmt::Result {
-        match self {
-            ArpEthIpv4FromError::NonMatchingHwType(id) => {
-                let number = id.0;
-                write!(
-                    f,
-                    "ARP Error: The hardware type is '{number}', and not '1' of Ethernet."
-                )
-            }
-            ArpEthIpv4FromError::NonMatchingProtocolType(ether_type) => {
-                let number = ether_type.0;
-                write!(
-                    f,
-                    "ARP Error: The protocol type is '{number}', and not '2048' of IPv4."
-                )
-            }
+        match *self {
+            ArpEthIpv4FromError::NonMatchingHwType(ArpHardwareId(number)) => write!(
+                f,
+                "ARP Error: The hardware type is '{number}', and not '1' of Ethernet."
+            ),
+            ArpEthIpv4FromError::NonMatchingProtocolType(EtherType(number)) => write!(
+                f,
+                "ARP Error: The protocol type is '{number}', and not '2048' of IPv4."
+            ),
             ArpEthIpv4FromError::NonMatchingHwAddrSize(size) => write!(
                 f,
                 "ARP Error: The hardware addresses have '{size}' byte(s), and not '6'."

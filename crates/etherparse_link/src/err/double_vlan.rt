@@ -47,16 +47,13 @@ impl fmt::Display for HeaderError {
     ghost output = { λ e. Some (header_error_text e) };
 
     fn fmt<W: fmt::Write>(&self, f: &mut fmt::Formatter<W>) -> fmt::Result {
-        match self {
+        match *self {
             HeaderError::NonVlanEtherType {
-                unexpected_ether_type,
-            } => {
-                let number = unexpected_ether_type.0;
-                write!(
-                    f,
-                    "Double VLAN Error: The outer tag has the ether type '{number}', which is that of no VLAN tag."
-                )
-            }
+                unexpected_ether_type: EtherType(number),
+            } => write!(
+                f,
+                "Double VLAN Error: The outer tag has the ether type '{number}', which is that of no VLAN tag."
+            ),
         }
     }
 }

@@ -21,7 +21,7 @@ impl fmt::Display for ExtPayloadLenError {
     ghost output = { λ e. Some (ext_payload_len_error_text e) };
 
     fn fmt<W: fmt::Write>(&self, f: &mut fmt::Formatter<W>) -> fmt::Result {
-        match self {
+        match *self {
             ExtPayloadLenError::TooSmall(len) => write!(
                 f,
                 "IPv6 Extension Header Error: The payload has '{len}' byte(s) (minimum allowed value is '6')."

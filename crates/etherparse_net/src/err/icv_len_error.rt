@@ -19,7 +19,7 @@ impl fmt::Display for IcvLenError {
     ghost output = { λ e. Some (icv_len_error_text e) };
 
     fn fmt<W: fmt::Write>(&self, f: &mut fmt::Formatter<W>) -> fmt::Result {
-        match self {
+        match *self {
             IcvLenError::TooBig(len) => write!(
                 f,
                 "IP Authentication Header Error: The integrity check value has '{len}' byte(s) (maximum allowed value is '1016')."

@@ -28,18 +28,14 @@ impl fmt::Display for Ipv4OptionError {
     fn fmt<W: fmt::Write>(&self, f: &mut fmt::Formatter<W>) -> fmt::Result {
         match self {
             Ipv4OptionError::Incomplete(e) => e.fmt(f),
-            Ipv4OptionError::LengthBelowTwo {
+            &Ipv4OptionError::LengthBelowTwo {
                 option_type,
                 option_length,
                 offset,
-            } => {
-                let (option_type, offset) = (*option_type, *offset);
-                let len = *option_length;
-                write!(
-                    f,
-                    "IP Option Error: The option of type '{option_type}' at byte {offset} has the length '{len}' (minimum allowed value is '2')."
-                )
-            }
+            } => write!(
+                f,
+                "IP Option Error: The option of type '{option_type}' at byte {offset} has the length '{option_length}' (minimum allowed value is '2')."
+            ),
         }
     }
 }

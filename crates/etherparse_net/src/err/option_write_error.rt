@@ -18,7 +18,7 @@ impl fmt::Display for OptionWriteError {
     ghost output = { λ e. Some (option_write_error_text e) };
 
     fn fmt<W: fmt::Write>(&self, f: &mut fmt::Formatter<W>) -> fmt::Result {
-        match self {
+        match *self {
             OptionWriteError::DataTooLong(len) => write!(
                 f,
                 "IPv6 Option Error: The data has '{len}' byte(s), which is more than an option of its type can have."

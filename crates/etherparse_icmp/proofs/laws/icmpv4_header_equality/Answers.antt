@@ -1,8 +1,8 @@
 use Rattle.std.proofs.Common.{◌≡◌, Bool, ap, rules, subst, sym, tests}
 use Rattle.std.specs.Prelude.{◌&&◌, ◌==◌, ◌↔◌, IsTrue}
-use Rattle.etherparse_icmp.specs.contracts.icmpv4.dest_unreachable_header.DestUnreachableHeaderPartialEq.TheImpl as code_derived
+use Rattle.etherparse_icmp.specs.contracts.icmpv4.unreachable.DestUnreachableHeaderPartialEq.TheImpl as code_derived
 use Rattle.etherparse_icmp.specs.contracts.icmpv4_type.Icmpv4TypePartialEq.TheImpl as derived
-use Rattle.etherparse_icmp.specs.declared.icmpv4.dest_unreachable_header.DestUnreachableHeader.{DestUnreachableHeader}
+use Rattle.etherparse_icmp.specs.declared.icmpv4.unreachable.DestUnreachableHeader.{DestUnreachableHeader}
 use Rattle.etherparse_icmp.specs.declared.icmpv4_header.Icmpv4Header.{Icmpv4Header}
 use Rattle.etherparse_icmp.specs.declared.icmpv4_type.Icmpv4Type.{Icmpv4Type}
 use Rattle.etherparse_icmp.specs.declared.icmpv4_type.Icmpv4Type.TheVariants.{DestinationUnreachable}

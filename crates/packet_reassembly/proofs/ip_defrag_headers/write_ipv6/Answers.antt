@@ -1,7 +1,12 @@
-use Rattle.std.proofs.Common.{ℕ, ◌≡◌, ◌++◌, Ok, ap, arith, length, length-append, refl}
+use Rattle.std.proofs.Common.{ℕ, ◌≡◌, ◌++◌, ◌-◌, ◌<◌, ◌≤◌, List, Ok, ap, arith, length, length-append, refl}
 use Rattle.std.proofs.lemmas.Result.{IfErr-weaker, IfOk-at_ok, IfOk-weaker}
+use Rattle.packet_reassembly.specs.Headers.{AreIpv6HeadersAt}
 use Rattle.packet_reassembly.proofs.Kept.{ipv6_first, parts_at, places, too_long}
 use Rattle.packet_reassembly.proofs.ip_defrag_headers.write_ipv6.Goals as goal
+
+at : {headers : List ℕ} {place : ℕ} → AreIpv6HeadersAt headers place
+    → (40 ≤ place) × (place ≤ length headers) × (8 ≤ length headers) × (place ≤ length headers - 8) × (length headers - 8 ≤ length headers) × (length headers - 8 < length headers)
+at p = let h = places _ _ p in (omega arith, omega arith, omega arith, omega arith, omega arith, omega arith)
 
 pub unreachable-requires : goal.unreachable-requires
 unreachable-requires c =
@@ -9,22 +14,28 @@ unreachable-requires c =
     cc (c.in-Err.ensures.reads.only (Ok (p.first, p.before ++ (p.last ++ p.are_headers.at))) (ipv6_first c.args.headers.now c.args.place p))
 
 pub overflow_sub-end : goal.overflow_sub-end
-overflow_sub-end c = let at = places c.args.headers.now c.args.place c.requires.headers in omega arith
+overflow_sub-end c = (at c.requires.headers).2
 
 pub bounds-headers-end : goal.bounds-headers-end
-bounds-headers-end c = let at = places c.args.headers.now c.args.place c.requires.headers in omega arith
+bounds-headers-end c = (at c.requires.headers).5
 
 pub slice_bounds-before-start : goal.slice_bounds-before-start
-slice_bounds-before-start c = let at = places c.args.headers.now c.args.place c.requires.headers in omega arith
+slice_bounds-before-start c = (at c.requires.headers).0
 
 pub slice_bounds-before-end : goal.slice_bounds-before-end
-slice_bounds-before-end c = let at = places c.args.headers.now c.args.place c.requires.headers in omega arith
+slice_bounds-before-end c = (at c.requires.headers).1
 
 pub slice_bounds-last-start : goal.slice_bounds-last-start
-slice_bounds-last-start c = let at = places c.args.headers.now c.args.place c.requires.headers in omega arith
+slice_bounds-last-start c = (at c.requires.headers).3
 
 pub slice_bounds-last-end : goal.slice_bounds-last-end
-slice_bounds-last-end c = let at = places c.args.headers.now c.args.place c.requires.headers in omega arith
+slice_bounds-last-end c = (at c.requires.headers).4
+
+pub slice_bounds-before-count : goal.slice_bounds-before-count
+slice_bounds-before-count c = (at c.requires.headers).0
+
+pub slice_bounds-last-count : goal.slice_bounds-last-count
+slice_bounds-last-count c = (at c.requires.headers).3
 
 pub write_ipv6_packet-requires : goal.write_ipv6_packet-requires
 write_ipv6_packet-requires c =

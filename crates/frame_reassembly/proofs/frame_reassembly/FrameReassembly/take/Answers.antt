@@ -1,8 +1,8 @@
-use Rattle.std.proofs.Common.{List, None, Some, [], ap, append-nil, arith, drop, drop_at, inl, inr, length, length-take-le, option_map, refl, rules, subst, sym, take, ℕ, ◌+◌, ◌++◌, ◌-◌, ◌∙◌, ◌≡◌, ◌≤◌}
+use Rattle.std.proofs.Common.{List, None, Some, [], ap, append-nil, arith, drop, drop_at, inl, inr, length, length-append, length-take-le, option_map, refl, subst, sym, take, ℕ, ◌+◌, ◌++◌, ◌-◌, ◌∙◌, ◌≡◌, ◌≤◌}
 use Rattle.std.specs.Prelude.{IfNone}
 use Rattle.std.proofs.Math.Seq.{drop-append-add, drop-drop, take-append-add}
 use Rattle.std.proofs.lemmas.List.{drop_all, length-drop, take-append-drop, take-append-le, take_all}
-use borrow.Rule.Slice.PartMut.{mid_of, post_of, put_mid}
+use borrow.Rule.Slice.PartMut.{mid_len, mid_of, post_of, put_mid, same_len_mid}
 use Rattle.frame_reassembly.proofs.frame_reassembly.FrameReassembly.take.Goals as goal
 
 -- a frame whose end is written after its front is copied
@@ -34,7 +34,7 @@ returns-clause-after c =
     let len = length c.args.frame.now - length c.in_ok-carried.carried.packet.now in
     let front = c.copy_from_slice.new.self in
     let whole : length front ≡ len = ap length c.copy_from_slice.ensures.after ∙ length-take-le len c.args.frame.now (omega arith) in
-    drop-joined len (length c.args.out.now - len) c.in_ok-len.len c.args.out.now c.take_packet.new.out front whole (omega (arith, c.requires.room)) (search rules) c.in_ok-len.ensures.after
+    drop-joined len (length c.args.out.now - len) c.in_ok-len.len c.args.out.now c.take_packet.new.out front whole (omega (arith, c.requires.room)) (c.in_ok-len.ensures.same_len ∙ mid_len len (length c.args.out.now) c.args.out.now (omega (arith, c.requires.room))) c.in_ok-len.ensures.after
 
 pub returns-in_err-carried-clause-takes : goal.returns-in_err-carried-clause-takes
 returns-in_err-carried-clause-takes c =
@@ -63,3 +63,49 @@ pub returns-in_err-len-clause-same_len : goal.returns-in_err-len-clause-same_len
 returns-in_err-len-clause-same_len c =
     let len = length c.args.frame.now - length c.in_ok-carried.carried.packet.now in
     ap length (put_back len (length c.args.out.now - len) c.args.out.now c.take_packet.new.out c.in_err-len.ensures.nothing)
+
+pub take_packet-requires-clause-room : goal.take_packet-requires-clause-room
+take_packet-requires-clause-room c =
+    let len = length c.args.frame.now - length c.in_ok-carried.carried.packet.now in
+    omega (arith, c.requires.room, mid_len len (length c.args.out.now) c.args.out.now (omega (arith, c.requires.room)))
+
+pub invariant_of-self : goal.invariant_of-self
+invariant_of-self c =
+    let e = c.in_err-len.ensures in
+    (omega (arith, e.slots), omega (arith, e.slots), e.headers, e.timeout)
+
+pub invariant_of-self-2 : goal.invariant_of-self-2
+invariant_of-self-2 c =
+    let e = c.in_ok-len.ensures in
+    (omega (arith, e.slots), omega (arith, e.slots), e.headers, e.timeout)
+
+pub slice_bounds-copy_from_slice-end : goal.slice_bounds-copy_from_slice-end
+slice_bounds-copy_from_slice-end c =
+    let len = length c.args.frame.now - length c.in_ok-carried.carried.packet.now in
+    omega (arith, c.requires.room, same_len_mid len (length c.args.out.now - len) c.args.out.now c.take_packet.new.out c.in_ok-len.ensures.same_len)
+
+pub copy_from_slice-requires : goal.copy_from_slice-requires
+copy_from_slice-requires c =
+    let len = length c.args.frame.now - length c.in_ok-carried.carried.packet.now in
+    let same = same_len_mid len (length c.args.out.now - len) c.args.out.now c.take_packet.new.out c.in_ok-len.ensures.same_len in
+    length-take-le len _ (omega (arith, c.requires.room, same)) ∙ sym (length-take-le len c.args.frame.now (omega arith))
+
+-- the length of a frame whose end is written before its front
+joined-len : {A : Type 0} (f k : ℕ) (out written front : List A) → length front ≡ f → f ≤ length out → length written ≡ length (mid_of f k out) → length (front ++ drop f (put_mid f k out written)) ≡ length out
+joined-len f k out written front len fits same =
+    omega (arith, len, fits, length-append front (drop f (put_mid f k out written)), length-drop f (put_mid f k out written), same_len_mid f k out written same)
+
+pub returns-clause-same_len : goal.returns-clause-same_len
+returns-clause-same_len c =
+    let len = length c.args.frame.now - length c.in_ok-carried.carried.packet.now in
+    let whole = ap length c.copy_from_slice.ensures.after ∙ length-take-le len c.args.frame.now (omega arith) in
+    joined-len len (length c.args.out.now - len) c.args.out.now c.take_packet.new.out c.copy_from_slice.new.self whole (omega (arith, c.requires.room)) c.in_ok-len.ensures.same_len
+
+pub returns-clause-within : goal.returns-clause-within
+returns-clause-within c =
+    let out = c.args.out.now in
+    let len = length c.args.frame.now - length c.in_ok-carried.carried.packet.now in
+    let whole = ap length c.copy_from_slice.ensures.after ∙ length-take-le len c.args.frame.now (omega arith) in
+    let e = c.in_ok-len.ensures in
+    let same = joined-len len (length out - len) out c.take_packet.new.out c.copy_from_slice.new.self whole (omega (arith, c.requires.room)) e.same_len in
+    omega (arith, c.requires.room, same, e.within, e.same_len, mid_len len (length out) out (omega (arith, c.requires.room)))

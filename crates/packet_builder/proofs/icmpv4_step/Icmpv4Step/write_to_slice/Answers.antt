@@ -1,4 +1,5 @@
 use Rattle.std.proofs.Common.{◌≡◌, ◌+◌, ◌++◌, ap, arith, length, length-append, refl}
+use Rattle.std.proofs.lemmas.Result.{err_from_is_err_and}
 use Rattle.packet_builder.proofs.BuiltHeaders.{written}
 use Rattle.packet_builder.proofs.Parts.{weaker}
 use Rattle.packet_builder.proofs.icmpv4_step.Icmpv4Step.write_to_slice.Goals as goal
@@ -23,3 +24,23 @@ returns-clause-packet c =
       written = rw (c.as_slice.ensures.value) is_written;
       has_headers = has_headers;
     })
+
+pub returns-in_err-at-clause-accepted : goal.returns-in_err-at-clause-accepted
+returns-in_err-at-clause-accepted c =
+    let error = err_from_is_err_and c.from_residual.result c.from_residual.ensures.1 in
+    rw (error.1, ← c.header_len.ensures.value) c.in_err-at.ensures.accepted
+
+pub returns-in_err-at-clause-refused : goal.returns-in_err-at-clause-refused
+returns-in_err-at-clause-refused c =
+    let error = err_from_is_err_and c.from_residual.result c.from_residual.ensures.1 in
+    rw (error.1, error.2, ← c.header_len.ensures.value) c.in_err-at.ensures.refused
+
+pub put_upper-requires : goal.put_upper-requires
+put_upper-requires c =
+    let put = c.in_ok-at.ensures in
+    let payload = c.args.payload.now in
+    let is_written = rw (c.with_checksum.ensures.icmp_type) at c.to_bytes-icmp.ensures.layout in
+    record { room = omega (arith, length-append c.as_slice.result.now payload, ap length c.as_slice.ensures.value, is_written.layout.len, c.header_len.ensures.value, put.end, put.writes.same_len, (put.accepted.0 refl).1) }
+
+pub returns-clause-accepted : goal.returns-clause-accepted
+returns-clause-accepted c = rw (c.header_len.ensures.value) at c.in_ok-at.ensures.accepted
