@@ -9,7 +9,6 @@ up to four. The last line is 'N passed, M failed'.
 """
 import concurrent.futures
 import functools
-import itertools
 import os
 import pathlib
 import re
@@ -161,8 +160,8 @@ def stub(crate, room, bodies):
 
 
 def groups(crate, bodies):
-    """Returns the bodies in groups. Those of one are in different functions, so that none has a part in what another comes to; or
-    they change impls in different files, of which laws speak."""
+    """Returns the bodies in groups. Those of one are in different functions, so that none has a part in what another comes to, here or in
+    a library that stands on this one; or else, in the second list, they change impls in different files, of which laws speak."""
     apart, alone, laws = [], [], []
     for body in bodies:
         functions, edits = read(body)
@@ -183,7 +182,7 @@ def groups(crate, bodies):
         if group is None:
             apart.append(group := [])
         group.append(body)
-    return apart + alone + [laws] * bool(laws)
+    return apart, alone + [laws] * bool(laws)
 
 
 def told(crate, function, lines, is_source):
@@ -239,6 +238,13 @@ def why_failed(group, whole, kept):
     return found
 
 
+def turns(by_crate):
+    """Returns which groups are tried at a time, by their crates: one of each crate, as long as all have one, since what stands between
+    two libraries has to be there; and then each by itself."""
+    together = [dict(zip(by_crate, turn)) for turn in zip(*(apart for apart, _ in by_crate.values()))]
+    return together + [{crate: its} for crate, (apart, others) in by_crate.items() for its in apart[len(together):] + others]
+
+
 def tried(bodies):
     """Returns for each of the bodies of some crates why it failed, or nothing."""
     with tempfile.TemporaryDirectory() as room:
@@ -255,23 +261,20 @@ def tried(bodies):
                         found[body] = f'{old} stands {text.count(old)} times in {file}'
                     texts[file] = text.replace(old, new)
             by_crate[crate] = groups(crate, [body for body in its if body not in found])
-        for turn in itertools.zip_longest(*by_crate.values()):
-            group = {crate: its for crate, its in zip(by_crate, turn) if its}
-            # (without all of them, what stands between two would not be there)
-            for part in [group] if len(group) == len(bodies) else [{crate: its} for crate, its in group.items()]:
-                came = why_failed(part, whole, kept)
-                for crate, body in ((crate, body) for crate, its in part.items() for body in its):
-                    # (it may be the fault of another)
-                    found[body] = why_failed({crate: [body]}, whole, kept)[body] if came[body] and len(came) > 1 else came[body]
+        for group in turns(by_crate):
+            came = why_failed(group, whole, kept)
+            for crate, body in ((crate, body) for crate, its in group.items() for body in its):
+                # (it may be the fault of another)
+                found[body] = why_failed({crate: [body]}, whole, kept)[body] if came[body] and len(came) > 1 else came[body]
         return found
 
 
 def main():
     pattern, crates = ('**/*.edit', sys.argv[1:]) if sys.argv[1:] else ('*.edit', sorted(it.name for it in BODIES.iterdir()))
     bodies = {crate: its for crate in crates if (its := sorted((BODIES / crate).glob(pattern)))}
-    groups_of = [] if sys.argv[1:] else TOGETHER
-    groups_of = [*groups_of, *([crate] for crate in bodies if not any(crate in its for its in groups_of))]
-    together = sorted(({crate: bodies[crate] for crate in its} for its in groups_of), key=lambda its: -sum(map(len, its.values())))
+    shared = [] if sys.argv[1:] else TOGETHER
+    alone = [[crate] for crate in bodies if not any(crate in names for names in shared)]
+    together = sorted(({crate: bodies[crate] for crate in names} for names in shared + alone), key=lambda its: -sum(map(len, its.values())))
     failed = 0
     with concurrent.futures.ThreadPoolExecutor(min(4, os.cpu_count())) as pool:
         for its, found in zip(together, pool.map(tried, together)):
