@@ -46,7 +46,7 @@ def planted(room, chance):
     found = {}
     for file, path, begin, end in bodies.callables(room):
         lines = file.read_text().split('\n')
-        if any('#[test]' in line for line in lines[max(0, begin - 9):begin]):
+        if 'tests' in path or any('#[test]' in line for line in lines[max(0, begin - 9):begin]):
             continue
         if these := [(at, new) for at in range(begin + 1, end) for new in mutants(lines[at])]:
             at, new = chance.choice(these)
