@@ -3,9 +3,9 @@
 
     docs/check.py       from anywhere; after `rt ci` or `rt run` it also runs commands of `iphead`
 
-- Code in Rattle stands in a source file, contracts aside, or else proves in a crate of its own;
-  a line in antt stands in a proof or a definition; other code stands in a file of its language or
-  compiles.
+- Code in Rattle stands in a source file, contracts aside, or in an example of a doc comment, or
+  else proves in a crate of its own; a line in antt stands in a proof or a definition; other code
+  stands in a file of its language or compiles.
 - A file that a page names is there, and each command names files that are there, and scripts that
   can be run; a command that pipes into `rt run` or `rt try` in crates/iphead is run by the built
   program, and prints what the page shows.
@@ -149,6 +149,8 @@ def known_names():
 SQUEEZED = {file: without_contracts(text) for file, text in SOURCES.items()}
 FOREIGN = [''.join(file.read_text().split()) for file in FILES
            if file.suffix in ('.c', '.h', '.rs', '.toml')]
+EXAMPLES = [''.join(''.join(re.findall(r'^ *//[/!] (.*)', text, re.M)).split())
+            for text in SOURCES.values()]
 LINES_OF_PROOFS = {' '.join(line.split()).replace('Rattle.uses.', 'Rattle.my_crate.')
                    for text in SPECS.values() for line in text.split('\n')}
 CONTRACTS = [one for file, text in SOURCES.items() for one in contracts(file, text)]
@@ -190,7 +192,7 @@ def compiles(block):
         return True
     compiler = ['gcc', '-std=c11', '-fsyntax-only', '-xc', '-']
     include = ['-I', str(ROOT / 'crates/etherparse_c/include')]
-    head = ('#include <etherparse.h>\n#include <string.h>\n'
+    head = ('#include <etherparse_filter.h>\n#include <string.h>\n'
             'void tried(const uint8_t *packet, size_t len, uint8_t *udp, uint16_t udp_len) {')
     return any(subprocess.run(compiler + include, input=text, capture_output=True, text=True,
                               check=False).returncode == 0
@@ -224,7 +226,7 @@ def check_code(page, text):
         if language == 'rust':
             squeezed = without_contracts(block)
             stands = any(squeezed in source for source in SQUEEZED.values())
-            stands = stands or any(foreign in source for source in FOREIGN)
+            stands = stands or any(foreign in source for source in FOREIGN + EXAMPLES)
             judge(page, first, stands or proves(block), 'stands nowhere, and does not prove')
         elif language == 'rs':
             judge(page, first, compiles_by_rustc(block), 'does not compile')

@@ -582,7 +582,7 @@ struct etherparse_frame {
 };
 
 /* etherparse_packet_lax_from_link_type of each frame of a list: answers[i] is that of frames[i]. It
- * returns how many there are, the smaller count of both; the answers after them stay as they are.
+ * returns how many answers it wrote, the smaller of both counts; those after them stay as they are.
  * The lists do not overlap. */
 size_t etherparse_packet_lax_batch(uint32_t link_type, const struct etherparse_frame *frames,
     size_t frame_count, bool checksums, struct etherparse_packet *answers, size_t answer_count);

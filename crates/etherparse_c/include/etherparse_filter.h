@@ -97,7 +97,7 @@ enum etherparse_filter_expected {
     ETHERPARSE_FILTER_BITS = 35 /* "|" or ")" */
 };
 
-/* Compiles a text of len bytes to a filter. If the text is none, it returns false, the refusal says
+/* Compiles a text of len bytes to a filter. If the text is wrong, it returns false, the refusal says
  * why, and the filter is one that chooses no frame. Otherwise the refusal is all 0.
  *
  * The text may be null only if len is 0; the other pointers are not null, and what they point to
@@ -115,7 +115,7 @@ bool etherparse_filter_matches(struct etherparse_filter *filter, uint32_t link_t
     const uint8_t *at, size_t len, size_t original_len);
 
 /* etherparse_filter_matches of each frame of a list: answers[i] is that for frames[i]. It returns how
- * many there are, the smaller count of both; the answers after them stay as they are. The lists and
+ * many answers it wrote, the smaller of both counts; those after them stay as they are. The lists and
  * the filter do not overlap. */
 size_t etherparse_filter_matches_batch(struct etherparse_filter *filter, uint32_t link_type,
     const struct etherparse_frame *frames, size_t frame_count, bool *answers, size_t answer_count);
