@@ -31,7 +31,7 @@ mod filters {
     use etherparse_proved::filter::{Filter, FilterError};
     use etherparse_proved::LinkType;
 
-    /// Leaves the frames in a list that an expression chooses.
+    /// Keeps only the frames that an expression chooses.
     fn retain_chosen(expression: &str, frames: &mut Vec<&[u8]>) -> Result<(), FilterError> {
         let mut filter = Filter::from_text(expression)?;
         frames.retain(|frame| filter.matches_frame(LinkType::ETHERNET, frame, frame.len()));

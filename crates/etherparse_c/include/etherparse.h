@@ -139,27 +139,26 @@ enum {
     ETHERPARSE_LINK_TYPE = 8 /* frames of this link type are not read */
 };
 
-/* The layers that an error is about. */
+/* The layers that an error is about; and, of a LEN, what its len is the length of. */
 enum {
-    ETHERPARSE_IPV4_HEADER = 1, /* its length is that of the slice, or of the rest of the frame */
-    ETHERPARSE_IPV4_PACKET = 2, /* its length is the total_len of its header */
-    ETHERPARSE_IPV6_HEADER = 3, /* as of IPV4_HEADER */
-    /* its length is that of what is left of the slice, or of the IP packet in a frame */
-    ETHERPARSE_IPV6_EXT_HEADER = 4,
-    ETHERPARSE_LINK_HEADER = 5, /* its length is that of the frame */
-    ETHERPARSE_VLAN_HEADER = 6, /* its length is that of what is left of the frame */
+    ETHERPARSE_IPV4_HEADER = 1, /* the slice, or the rest of the frame */
+    ETHERPARSE_IPV4_PACKET = 2, /* len is the total_len of the header */
+    ETHERPARSE_IPV6_HEADER = 3, /* the slice, or the rest of the frame */
+    ETHERPARSE_IPV6_EXT_HEADER = 4, /* what is left of the slice, or of the IP packet in a frame */
+    ETHERPARSE_LINK_HEADER = 5, /* the frame */
+    ETHERPARSE_VLAN_HEADER = 6, /* what is left of the frame */
     ETHERPARSE_IP_HEADER = 7, /* of neither version, or of no bytes */
-    ETHERPARSE_IPV4_PACKET_BYTES = 8, /* its length is that of what is left of the frame */
-    ETHERPARSE_IPV6_PACKET = 9, /* its length is that of what is left of the frame */
-    ETHERPARSE_UDP_HEADER = 10, /* its length is that of the payload of the IP packet */
+    ETHERPARSE_IPV4_PACKET_BYTES = 8, /* what is left of the frame */
+    ETHERPARSE_IPV6_PACKET = 9, /* what is left of the frame */
+    ETHERPARSE_UDP_HEADER = 10, /* the payload of the IP packet */
     ETHERPARSE_TCP_HEADER = 11, /* likewise */
     ETHERPARSE_ICMPV4 = 12, /* likewise */
     ETHERPARSE_ICMPV6 = 13 /* likewise */
 };
 
-/* Where the length of a LEN comes from. That of IPV4_PACKET is the total length itself. In a frame
- * the length field of the IP header says where UDP_HEADER, TCP_HEADER, ICMPV4, ICMPV6 and
- * IPV6_EXT_HEADER end. All other lengths are FROM_SLICE. */
+/* Where the len of a LEN comes from. That of IPV4_PACKET is the total length itself. In a frame that
+ * of UDP_HEADER, TCP_HEADER, ICMPV4, ICMPV6 and IPV6_EXT_HEADER ends where the length field of the
+ * IP header says. All others are FROM_SLICE. */
 enum {
     ETHERPARSE_FROM_SLICE = 0, /* the end of the bytes that were passed */
     ETHERPARSE_FROM_IPV4_TOTAL_LEN = 1, /* the total length field of the IPv4 header */
@@ -187,8 +186,8 @@ enum {
  * The text is empty of ETHERPARSE_OK and a kind that is not listed above; of an UNEXPECTED_VERSION
  * of another layer than IPV4_HEADER, IPV6_HEADER and IP_HEADER; of a VALUE_TOO_BIG with a value
  * that is not listed; and of a LEN whose len is not below its required_len, whose layer is not
- * listed, or whose source is not listed unless the layer is LINK_HEADER, or is not FROM_SLICE with
- * the layer IPV4_PACKET_BYTES. */
+ * listed, whose source is not listed (of LINK_HEADER it does not matter), or whose source is not
+ * FROM_SLICE where the layer is IPV4_PACKET_BYTES. */
 size_t etherparse_error_text(const struct etherparse_error *error, char *text, size_t len);
 
 /* The bytes after a header, or after extension headers: the slice from this offset on. */
@@ -213,7 +212,7 @@ struct etherparse_ipv4_fields {
     uint16_t header_checksum; /* bytes 10 and 11 as a number, the high byte first */
     uint8_t source[4];
     uint8_t destination[4];
-    uint8_t options_len; /* the number of bytes of options: at most 40, in words of 4 */
+    uint8_t options_len; /* how many bytes of options: at most 40, a multiple of 4 */
     uint8_t options[40]; /* what follows the options in the array does not matter */
 };
 
@@ -476,7 +475,7 @@ struct etherparse_packet_link {
     struct etherparse_vlan_tag inner_vlan; /* if vlan_count is 2 */
     uint8_t kind; /* a link header above */
     uint8_t vlan_count; /* at most 2: a third tag is another protocol */
-    /* not of LOOPBACK or an IP packet alone, of LINUX_SLL and LINUX_SLL2 with the ARPHRD type 770,
+    /* false of LOOPBACK, of an IP packet alone, of LINUX_SLL and LINUX_SLL2 with the ARPHRD type 770,
      * 803 or 824, and of some FRAMED */
     bool has_ether_type;
 };
@@ -513,9 +512,9 @@ struct etherparse_packet_transport {
     uint8_t icmp_code;
 };
 
-/* What a receiver finds of a checksum, with the addresses of the IP header: while a routing header,
- * a source route or a home address option names another one, a checksum with a pseudo-header is for
- * that one, and found wrong. */
+/* What a receiver finds of a checksum, with the addresses of the IP header: if a routing header, a
+ * source route or a home address option names another address, a checksum with a pseudo-header is
+ * for that address, and found wrong. */
 enum {
     ETHERPARSE_NOT_JUDGED = 0, /* it was not asked for, or there is no such header or packet */
     ETHERPARSE_RIGHT = 1,
@@ -551,9 +550,9 @@ enum {
     ETHERPARSE_LINKTYPE_LINUX_SLL2 = 276
 };
 
-/* The layers of a frame of a link type, as far as they can be read: of one that a capture cut, of
- * one that is damaged, or of a packet whose sender left its length to the network card. If
- * checksums is true, the checksums are judged, which reads all bytes of the packet.
+/* The layers of a frame of a link type, as far as they can be read: also if a capture cut it, if it
+ * is damaged, or if the sender of its packet left the length to the network card. If checksums is
+ * true, the checksums are judged, which reads all bytes of the packet.
  *
  * If stop.kind is LINK_TYPE, or LEN with the layer LINK_HEADER, there are no layers and all else
  * is 0. Otherwise what was read is there: if the frame ends within the IP packet, after its header,
@@ -567,8 +566,8 @@ void etherparse_packet_lax_from_link_type(uint32_t link_type, const uint8_t *at,
 void etherparse_packet_strict_from_link_type(uint32_t link_type, const uint8_t *at, size_t len,
     bool checksums, struct etherparse_packet *answer);
 
-/* The same of bytes that an EtherType names, in network byte order as a number: a VLAN tag and what
- * it tags, an IP packet (0x0800, 0x86dd), or another protocol. */
+/* The same of bytes that an EtherType names, which is a plain number, without htons: a VLAN tag and
+ * what it tags, an IP packet (0x0800, 0x86dd), or another protocol. */
 void etherparse_packet_lax_from_ether_type(uint16_t ether_type, const uint8_t *at, size_t len,
     bool checksums, struct etherparse_packet *answer);
 void etherparse_packet_strict_from_ether_type(uint16_t ether_type, const uint8_t *at, size_t len,

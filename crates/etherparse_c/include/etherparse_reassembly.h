@@ -1,6 +1,6 @@
 /* Fragments of IP packets put together: the proved library for C.
  *
- * What the fragments of a packet say does not depend on the order in which they come, nor on
+ * The datagram that fragments give does not depend on the order in which they come, nor on
  * repetitions. Two that contradict each other discard the datagram (RFC 5722, RFC 8200 section 4.5;
  * of IPv4 too, by choice).
  *
@@ -204,7 +204,7 @@ struct etherparse_defrag_written {
 void etherparse_defrag_slot_new(struct etherparse_defrag_slot *slot, uint8_t *memory, size_t len);
 
 /* Makes the state of a pool with so many slots, at least one, which etherparse_defrag_slot_new made.
- * A datagram is kept for so many ticks of the caller's clock after its first fragment:
+ * A datagram is kept for so many ticks of the caller's clock after the first fragment that came:
  * ETHERPARSE_DEFRAG_TIMEOUT_SECONDS, if those are seconds. Neither pointer is null. */
 void etherparse_defrag_pool_new(struct etherparse_defrag_pool_state *state,
     struct etherparse_defrag_slot *slots, size_t count, uint64_t timeout);

@@ -41,8 +41,8 @@ enum {
     ETHERPARSE_REWRITING_PACKET = 5,
     ETHERPARSE_REWRITING_EXTENSIONS = 6, /* the packet ends within an IPv6 extension header */
     ETHERPARSE_REWRITING_OTHER_VERSION = 7, /* the address is one of the other IP version */
-    /* fewer bytes are there than 8 of UDP, 20 of TCP or 4 of ICMPv6, as in a first fragment; or not
-     * all that a checksum covers */
+    /* fewer bytes are there than 8 of UDP, 20 of TCP or 4 of ICMP or ICMPv6, as in a first fragment;
+     * or not all that a checksum covers */
     ETHERPARSE_REWRITING_INCOMPLETE = 8,
     ETHERPARSE_REWRITING_LATER_FRAGMENT = 9, /* the payload is a later fragment, without ports */
     /* the protocol has no ports, or no checksum, that are known here */
