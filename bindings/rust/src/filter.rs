@@ -269,11 +269,11 @@ expected! {
     Or = OR,
     /// `or` or `)`.
     OrClose = OR_CLOSE,
-    /// After `ip` or `ip6`: what it is asked for, or an operator.
+    /// After `ip` or `ip6`: a word such as `host`, or an operator.
     AfterIp = AFTER_IP,
-    /// After `arp` or `rarp`: what it is asked for, or an operator.
+    /// After `arp` or `rarp`: a word such as `host`, or an operator.
     AfterArp = AFTER_ARP,
-    /// After `tcp`, `udp` or `sctp`: what it is asked for, or an operator.
+    /// After `tcp`, `udp` or `sctp`: a word such as `port`, or an operator.
     AfterTransport = AFTER_TRANSPORT,
     /// After `vlan`: an identifier, up to 4095, or an operator.
     AfterVlan = AFTER_VLAN,
@@ -281,7 +281,7 @@ expected! {
     AfterDirection = AFTER_DIRECTION,
     /// After a transport protocol and a direction, such as `tcp src`: `port` or `portrange`.
     AfterTransportDirection = AFTER_TRANSPORT_DIRECTION,
-    /// After `ether`: what it is asked for.
+    /// After `ether`: a word such as `host`.
     AfterEther = AFTER_ETHER,
     /// After `src or` and `src and`: `dst`.
     Destination = DESTINATION,

@@ -147,7 +147,7 @@ enum {
     ETHERPARSE_IPV6_EXT_HEADER = 4, /* what is left of the slice, or of the IP packet in a frame */
     ETHERPARSE_LINK_HEADER = 5, /* the frame */
     ETHERPARSE_VLAN_HEADER = 6, /* what is left of the frame */
-    ETHERPARSE_IP_HEADER = 7, /* of neither version, or of no bytes */
+    ETHERPARSE_IP_HEADER = 7, /* its version is not 4 or 6, or len is 0 */
     ETHERPARSE_IPV4_PACKET_BYTES = 8, /* what is left of the frame */
     ETHERPARSE_IPV6_PACKET = 9, /* what is left of the frame */
     ETHERPARSE_UDP_HEADER = 10, /* the payload of the IP packet */
@@ -156,9 +156,9 @@ enum {
     ETHERPARSE_ICMPV6 = 13 /* likewise */
 };
 
-/* Where the len of a LEN comes from. That of IPV4_PACKET is the total length itself. In a frame that
- * of UDP_HEADER, TCP_HEADER, ICMPV4, ICMPV6 and IPV6_EXT_HEADER ends where the length field of the
- * IP header says. All others are FROM_SLICE. */
+/* Where the len of a LEN comes from. That of IPV4_PACKET is the total length itself. In a frame,
+ * UDP_HEADER, TCP_HEADER, ICMPV4, ICMPV6 and IPV6_EXT_HEADER have it from the length field of the IP
+ * header. All others are FROM_SLICE. */
 enum {
     ETHERPARSE_FROM_SLICE = 0, /* the end of the bytes that were passed */
     ETHERPARSE_FROM_IPV4_TOTAL_LEN = 1, /* the total length field of the IPv4 header */
@@ -183,11 +183,11 @@ enum {
  * has, without that 0; so len may be 0. The pointer to the error is not null; text may be null only
  * if len is 0.
  *
- * The text is empty of ETHERPARSE_OK and a kind that is not listed above; of an UNEXPECTED_VERSION
- * of another layer than IPV4_HEADER, IPV6_HEADER and IP_HEADER; of a VALUE_TOO_BIG with a value
- * that is not listed; and of a LEN whose len is not below its required_len, whose layer is not
- * listed, whose source is not listed (of LINK_HEADER it does not matter), or whose source is not
- * FROM_SLICE where the layer is IPV4_PACKET_BYTES. */
+ * It is empty for ETHERPARSE_OK and a kind that is not listed above; for an UNEXPECTED_VERSION of
+ * another layer than IPV4_HEADER, IPV6_HEADER and IP_HEADER; for a VALUE_TOO_BIG with a value that is
+ * not listed; and for a LEN whose len is not below its required_len, whose layer is not listed, whose
+ * source is not listed (for LINK_HEADER it does not matter), or whose source is not FROM_SLICE where
+ * the layer is IPV4_PACKET_BYTES. */
 size_t etherparse_error_text(const struct etherparse_error *error, char *text, size_t len);
 
 /* The bytes after a header, or after extension headers: the slice from this offset on. */

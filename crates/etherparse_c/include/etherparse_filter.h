@@ -67,7 +67,7 @@ enum etherparse_filter_expected {
     ETHERPARSE_FILTER_AND_CLOSE = 5, /* "and" or ")" */
     ETHERPARSE_FILTER_OR = 6,
     ETHERPARSE_FILTER_OR_CLOSE = 7, /* "or" or ")" */
-    ETHERPARSE_FILTER_AFTER_IP = 8, /* after "ip" or "ip6": what it is asked for, or an operator */
+    ETHERPARSE_FILTER_AFTER_IP = 8, /* after "ip" or "ip6": a word such as "host", or an operator */
     ETHERPARSE_FILTER_AFTER_ARP = 9, /* after "arp" or "rarp" */
     ETHERPARSE_FILTER_AFTER_TRANSPORT = 10, /* after "tcp", "udp" or "sctp" */
     ETHERPARSE_FILTER_AFTER_VLAN = 11, /* an identifier, up to 4095, or an operator */

@@ -64,8 +64,8 @@ enum {
     /* the bytes are no IP packet, or not all of it is there, or it is one of IPv6 that ends within an
      * extension header before which there is no fragment header, or only atomic ones */
     ETHERPARSE_DEFRAG_PACKET = 4,
-    /* the first fragment of an IPv6 packet lacks a part of the header chain (RFC 7112): it ends within
-     * an extension header after its fragment header, or within the header of the upper layer */
+    /* the first fragment of an IPv6 packet lacks a part of the header chain (RFC 7112): after its
+     * fragment header it ends within a header, or has the fragment header of a later fragment */
     ETHERPARSE_DEFRAG_HEADER_CHAIN = 5,
     /* the headers of a first fragment have more than 1280 bytes */
     ETHERPARSE_DEFRAG_HEADERS_TOO_LONG = 6,
@@ -203,14 +203,14 @@ struct etherparse_defrag_written {
  * in the memory makes no difference. Neither pointer is null. */
 void etherparse_defrag_slot_new(struct etherparse_defrag_slot *slot, uint8_t *memory, size_t len);
 
-/* Makes the state of a pool with so many slots, at least one, which etherparse_defrag_slot_new made.
- * A datagram is kept for so many ticks of the caller's clock after the first fragment that came:
+/* Makes the state of a pool with count slots, at least one, which etherparse_defrag_slot_new made. A
+ * datagram is kept for timeout ticks of the caller's clock after the first fragment that came:
  * ETHERPARSE_DEFRAG_TIMEOUT_SECONDS, if those are seconds. Neither pointer is null. */
 void etherparse_defrag_pool_new(struct etherparse_defrag_pool_state *state,
     struct etherparse_defrag_slot *slots, size_t count, uint64_t timeout);
 
-/* Adds the fragment that an IP packet is, without the link header, to its datagram. If none has its
- * id, it takes a slot: one that none has, or else that of the oldest. A datagram as old as the
+/* Adds the fragment that an IP packet is, without the link header, to its datagram. If there is none
+ * with its id, one begins, in a free slot, or else in that of the oldest. A datagram as old as the
  * timeout, or older, is given up when a fragment with its id comes. The other slots do not change. A
  * VLAN identifier above 65535 says that there is no such tag. What follows the packet does not count.
  *

@@ -68,7 +68,7 @@ struct etherparse_checksum_answer {
 /* The checksum that a segment should have, whatever it has: of UDP (17) or TCP (6), with the
  * pseudo-header, of ICMP (1) over IPv4, which has none, and of ICMPv6 (58) over IPv6 (RFC 768, RFC
  * 9293 section 3.1, RFC 792, RFC 4443 section 2.3, RFC 8200 section 8.1). That of UDP is never 0,
- * which says that there is none.
+ * since 0 says that there is none.
  *
  * The segment has to end where the packet's length field says; a UDP datagram ends where its own
  * length field says: set that first. In a packet with a routing header, the destination is the

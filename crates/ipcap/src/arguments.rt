@@ -113,6 +113,7 @@ Examples:
   ipcap trace.pcap                           a line for each packet
   ipcap -c 10 trace.pcap icmp or arp         the first ten packets that match
   ipcap -w dns.pcap trace.pcap port 53       the packets that match, as a capture
+  ipcap --count trace.pcap checksum wrong    how many packets have a wrong checksum
   ipcap --reassemble trace.pcap              also what fragmented packets are as a whole
 
 Exit status: 0 done, 1 the capture is cut off or a block of it is refused, 2 the words are wrong, or
@@ -151,7 +152,7 @@ pub fn command<'a>(alloc: Global) -> Result<Command<'a>, AllocError>
         flag(
             alloc,
             "quiet",
-            "Print the closing line alone, to standard output"
+            "Print the counts at the end alone, to standard output"
         ),
         numbers(alloc),
         flag(alloc, "utc", "Print times as dates in UTC"),
