@@ -186,7 +186,7 @@ struct etherparse_frag_id {
 /* What became of a packet. */
 struct etherparse_defrag_added {
     struct etherparse_defrag_error error; /* why it was not added; OK if it is no fragment */
-    size_t slot; /* the slot of its datagram; 0 if there is none */
+    size_t slot; /* the slot of its datagram, from 0; also 0 if there is none */
     uint32_t state; /* of the datagram; NO_FRAGMENT if the packet was not added */
     /* the datagram that was given up for it: the oldest, if no slot was left, or an older one with
      * the same id, after the timeout */
