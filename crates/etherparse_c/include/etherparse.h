@@ -12,9 +12,10 @@
  * unless it was built for another; on an older processor a call ends the process with an illegal
  * instruction. The file etherparse.pc names the level of the installed library.
  *
- * Byte order: a field of a struct is a number whose high byte comes first in the packet. In a
- * sum, and in a checksum made from a sum, the low byte comes first; etherparse_swap_bytes converts
- * one form into the other. Each call says which form it takes and returns. */
+ * Byte order: a field of a struct, except family, is a number whose high byte comes first in the
+ * packet. In a sum, and in a checksum made from a sum, the low byte comes first;
+ * etherparse_swap_bytes converts one form into the other. Each call says which form it takes and
+ * returns. */
 
 #ifndef ETHERPARSE_H
 #define ETHERPARSE_H
@@ -418,8 +419,8 @@ struct etherparse_ipv6_bytes etherparse_ipv6_write(const struct etherparse_ipv6_
 struct etherparse_ipv6_walk_answer etherparse_ipv6_skip(const uint8_t *at, size_t len,
     uint8_t next_header);
 
-/* Skips all extension headers at the front of a slice; next_header is the number of the first.
- * The numbers 0, 43, 44, 51, 60, 135, 139 and 140 can be skipped; for any other the rest is the
+/* Skips all extension headers at the front of a slice; the first has the number next_header. The
+ * numbers 0, 43, 44, 51, 60, 135, 139 and 140 can be skipped; for any other the rest is the
  * whole slice. In a packet, pass the rest after the IPv6 header and the next_header of that
  * header; offsets then count from the start of that rest. A fragment header is skipped whatever
  * its offset: after one with an offset above 0 come bytes from the middle of a payload.
