@@ -61,7 +61,7 @@ extern "C" {
  * first in the packet. So memcpy puts a complement into a packet; etherparse_swap_bytes makes it
  * a number like header_checksum. */
 
-/* Bytes of a list of pieces. */
+/* A piece of a list. */
 struct etherparse_slice {
     const uint8_t *at;
     size_t len;
@@ -458,7 +458,7 @@ struct etherparse_vlan_tag {
 
 /* The link headers. */
 enum {
-    ETHERPARSE_NO_LINK = 0, /* before an IP packet, or after an EtherType */
+    ETHERPARSE_NO_LINK = 0, /* an IP packet alone, or after an EtherType */
     ETHERPARSE_ETHERNET = 1,
     ETHERPARSE_LINUX_SLL = 2, /* of a Linux cooked capture */
     ETHERPARSE_LINUX_SLL2 = 3, /* of one of version 2 */

@@ -69,7 +69,7 @@ pub const LINKTYPE_LINUX_SLL2: u32 = 276;
 /// Room in bytes for the longest text of an error and the 0 after it.
 pub const ERROR_TEXT_SIZE: usize = 333;
 
-/// Bytes of a list of pieces.
+/// A piece of a list.
 #[repr(C)]
 #[derive(Clone, Copy, Debug)]
 pub struct Slice {
