@@ -130,8 +130,8 @@ def reason(key, ours, theirs, words, told, digits):
         return 'tshark shows the port of a later fragment'
     if key == 'detail' and ours == '-' and ('cut' in words or '@' in words[12] or int(words[8]) < LEAST[words[5]]):
         return 'an incomplete header'
-    if key == 'payload' and ours == 'wrong' and theirs == 'right' and 'ipv6.routing' in told['frame.protocols']:
-        return 'a routing header'
+    if key == 'payload' and ours == 'none' and 'ipv6.routing' in told['frame.protocols']:
+        return 'a routing header of unknown type or with wrong numbers'
     if key == 'payload' and told['tcp.checksum'] == '0xffff':
         return 'a TCP checksum of all ones'
     return None

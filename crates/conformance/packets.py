@@ -53,17 +53,55 @@ def ones_complement_sum(data):
     return total
 
 
-def pseudo_header(parts, number, length):
+def pseudo_header(parts, number, length, destination=None):
     """RFC 768 and RFC 9293 section 3.1; RFC 8200 section 8.1"""
     tells = (struct.pack('!xBH', number, length) if parts['version'] == 4
              else struct.pack('!I3xB', length, number))
-    return parts['source'] + parts['destination'] + tells
+    return parts['source'] + (destination or parts['destination']) + tells
 
 
 def is_all_ones(parts, number, datagram):
-    """whether the words of a datagram and its pseudo-header sum to all ones"""
-    return ones_complement_sum(pseudo_header(parts, number, len(datagram))
-                               + datagram) == 0xffff
+    """whether the words of a datagram and its pseudo-header sum to all ones: that of the final
+    destination, of which no receiver is known if that is not"""
+    final = parts['final']
+    return final is not None and ones_complement_sum(
+        pseudo_header(parts, number, len(datagram), final) + datagram) == 0xffff
+
+
+def stops_of(header):
+    """the stops of a routing header in the order in which they are visited, without the bytes that
+    they share with the destination; nothing if it is of another type, or malformed"""
+    kind, units = header[2], header[1]
+    if kind == 0 and units % 2 == 0:
+        # RFC 2460 section 4.4
+        return [header[8 + 16 * i:24 + 16 * i] for i in range(units // 2)]
+    if kind == 2 and units == 2:
+        # RFC 6275 section 6.4
+        return [header[8:]]
+    if kind == 3:
+        # RFC 6554 section 3: n and the sizes of addresses by CmprI, CmprE and Pad
+        each, last, padding = 16 - header[4] // 16, 16 - header[4] % 16, header[5] // 16
+        before, odd = divmod(8 * units - padding - last, each)
+        if before < 0 or odd:
+            return []
+        ends = [8 + each * i for i in range(before + 1)] + [8 + each * before + last]
+        return [header[a:b] for a, b in zip(ends, ends[1:])]
+    if kind == 4 and 2 * (header[4] + 1) <= units:
+        # RFC 8754 section 2: the list is encoded from the last segment on
+        return [header[8 + 16 * i:24 + 16 * i] for i in range(header[4], -1, -1)]
+    return []
+
+
+def final_destination(destination, chain, body):
+    """where a packet goes past the stops that are left, or None: RFC 8200 sections 4.4 and 8.1"""
+    for number, place in chain:
+        header = body[place:place + extension_len(number, body[place:])]
+        if number == 43 and header[3] > 0:
+            stops = stops_of(header)
+            if header[3] > len(stops) or header[2] == 2 and header[3] > 1:
+                return None
+            destination = destination[:16 - len(stops[-1])] + stops[-1]
+    return destination
 
 
 def read_header4(packet):
@@ -172,7 +210,7 @@ def read_packet(packet):
     parts.update(body=packet[front:end], behind=packet[front:])
     if version == 4:
         return dict(parts, upper=parts['protocol'], payload=parts['body'], place=front,
-                    is_fragment=is_part(parts))
+                    is_fragment=is_part(parts), final=parts['destination'])
     try:
         chain, upper, place = read_extensions(parts['body'], parts['next_header'])
     except Refused as error:
@@ -180,7 +218,8 @@ def read_packet(packet):
         raise Refused(f'extensions={ended}')
     part = find_fragment_header(parts['body'], parts['next_header'], past_atomic=True)
     return dict(parts, upper=upper, payload=parts['body'][place:], place=40 + place, chain=chain,
-                extensions=parts['body'][:place], is_fragment=bool(part))
+                extensions=parts['body'][:place], is_fragment=bool(part),
+                final=final_destination(parts['destination'], chain, parts['body']))
 
 
 def read_udp(parts):
@@ -388,13 +427,13 @@ def text_of(address):
     return str(ipaddress.ip_address(address))
 
 
-def with_checksum(version, number, datagram, place, change='right'):
+def with_checksum(version, number, datagram, place, change='right', to=FAR6):
     """a datagram with the checksum that scapy makes, or with another one"""
     without = datagram[:place] + bytes(2) + datagram[place + 2:]
     if version == 4:
         made = in4_chksum(number, IP(src=text_of(NEAR4), dst=text_of(FAR4)), without)
     else:
-        made = in6_chksum(number, IPv6(src=text_of(NEAR6), dst=text_of(FAR6)), without)
+        made = in6_chksum(number, IPv6(src=text_of(NEAR6), dst=text_of(to)), without)
     if number == 17:
         made = made or 0xffff
     made = {'right': made, 'low bit': made ^ 1, 'high bit': made ^ 0x8000, 'none': 0,
@@ -580,12 +619,53 @@ def worked_ipv6():
         yield in_ipv6(chain, first)
 
 
+def routing(following, kind, left, inside, units=None):
+    """a routing header with these bytes after its first four"""
+    units = (len(inside) + 4) // 8 - 1 if units is None else units
+    return bytes([following, units, kind, left]) + inside
+
+
+def worked_routing():
+    one, two, three = (FAR6[:15] + bytes([n]) for n in (0xa1, 0xa2, 0xa3))
+    tail = [a[12:] for a in (one, two, three)]
+    lists = ((0, bytes(4) + one), (0, bytes(4) + one + two + three), (0, bytes(4) + one + bytes(8)),
+             (0, bytes(4)), (2, bytes(4) + two), (2, bytes(4) + one + two), (2, bytes(12)),
+             # twelve bytes elided from each address, or from all but the last, and padding
+             (3, bytes([0xcc, 0, 0, 0]) + tail[0] + tail[1]),
+             (3, bytes([0xcc, 0x40, 0, 0]) + tail[0] + tail[1] + tail[2] + bytes(4)),
+             (3, bytes([0xc0, 0x40, 0, 0]) + tail[0] + two + bytes(4)),
+             (3, bytes([0, 0, 0, 0]) + one + two),
+             (3, bytes([0xcc, 0x50, 0, 0]) + tail[0] + tail[1]),
+             (3, bytes([0xff, 0xf0, 0, 0]) + bytes(8)), (3, bytes([0, 0xf0, 0, 0])),
+             (4, bytes([0, 0, 0, 0]) + one), (4, bytes([1, 0, 0, 0]) + one + two),
+             (4, bytes([1, 0, 0, 7]) + one + two + bytes([5, 6]) + bytes(6)),
+             (4, bytes([2, 0, 0, 0]) + one + two), (4, bytes([0, 0, 0, 0]) + bytes(8)),
+             (1, bytes(4) + one), (5, bytes(4) + one), (253, bytes(4)))
+    for kind, inside in lists:
+        for left in 0, 1, 2, 3:
+            for to in FAR6, one, two, three:
+                data = with_checksum(6, 17, udp(6, counted(5)), 6, to=to)
+                yield in_ipv6(routing(17, kind, left, inside) + data, 43)
+    for to in one, two:
+        segment = with_checksum(6, 6, tcp(6, counted(3)), 16, to=to)
+        yield in_ipv6(routing(6, 4, 1, bytes(4) + one) + segment, 43)
+        # two routing headers: the second is passed after the first
+        both = routing(43, 0, 1, bytes(4) + one) + routing(6, 4, 1, bytes(4) + two)
+        yield in_ipv6(both + segment, 43)
+        both = routing(43, 0, 1, bytes(4) + one) + routing(6, 4, 0, bytes(4) + two)
+        yield in_ipv6(both + segment, 43)
+        # behind destination options, and before an atomic fragment header
+        yield in_ipv6(extension(60, 43) + routing(44, 0, 1, bytes(4) + one) + extension(44, 6)
+                      + segment, 60)
+
+
 def worked():
     for version in 4, 6:
         for make in worked_udp, worked_tcp, worked_echoes:
             yield from make(version)
     yield from worked_ipv4()
     yield from worked_ipv6()
+    yield from worked_routing()
 
 
 # What others tell of the same packets.
@@ -628,11 +708,13 @@ def ask_scapy(packet, read):
     ends = dict(src=text_of(parts['source']), dst=text_of(parts['destination']))
     ask_scapy_of_header(packet, parts, bare(packet), ends)
     sum_of = in4_chksum if parts['version'] == 4 else in6_chksum
+    last = dict(ends, dst=parts['final'] and text_of(parts['final']))
     if 'udp' in read:
-        ask_scapy_of_udp(packet, parts, read['udp'], sum_of, lambda: bare(**ends, **{number: 17}))
+        ask_scapy_of_udp(packet, parts, read['udp'], sum_of, lambda: bare(**ends, **{number: 17}),
+                         last['dst'] and bare(**last))
     if 'tcp' in read:
-        agree('scapy', 'TCP checksum', packet, sum_of(6, bare(**ends), parts['payload']) == 0,
-              read['tcp']['right'])
+        is_right = bool(last['dst']) and sum_of(6, bare(**last), parts['payload']) == 0
+        agree('scapy', 'TCP checksum', packet, is_right, read['tcp']['right'])
         ask_scapy_of_tcp(packet, TCP(parts['payload']), read['tcp'])
     if read.get('echo', {}).get('reply'):
         agree('scapy', 'echo reply', packet, reply_by_scapy(parts), read['echo']['message'])
@@ -657,7 +739,7 @@ def ask_scapy_of_header(packet, parts, ip, ends):
     agree('scapy', 'bytes within the length field', packet, kept, parts['body'])
 
 
-def ask_scapy_of_udp(packet, parts, udp_read, sum_of, carrier):
+def ask_scapy_of_udp(packet, parts, udp_read, sum_of, carrier, last):
     segment = UDP(parts['payload'])
     agree('scapy', 'UDP fields', packet,
           (segment.sport, segment.dport, segment.len, segment.chksum),
@@ -665,7 +747,7 @@ def ask_scapy_of_udp(packet, parts, udp_read, sum_of, carrier):
     if 'right' not in udp_read:
         return
     datagram = parts['payload'][:segment.len]
-    is_right = sum_of(17, carrier(), datagram) == 0
+    is_right = bool(last) and sum_of(17, last, datagram) == 0
     is_none = segment.chksum == 0
     agree('scapy', 'UDP checksum', packet,
           is_right or is_none if parts['version'] == 4 else is_right and not is_none,
@@ -809,7 +891,7 @@ def ask_tshark(packet, read, told):
     ask_tshark_of_chain(packet, parts, told, first)
     if 'udp' in read and 'udp.srcport' in first:
         agree_on_fields('UDP ', TOLD_OF_UDP, read['udp'])
-        agree_on_status('UDP', packet, first.get('udp.checksum.status'), read['udp'])
+        agree_on_status('UDP', packet, first.get('udp.checksum.status'), read['udp'], parts)
     if 'tcp' in read and 'tcp.srcport' in first:
         agree_on_fields('TCP ', TOLD_OF_TCP, read['tcp'])
         agree('tshark', 'TCP header length', packet, number_of(first['tcp.hdr_len']),
@@ -819,7 +901,7 @@ def ask_tshark(packet, read, told):
         if read['tcp']['options']:
             agree('tshark', 'TCP options', packet,
                   bytes.fromhex(first['tcp.options'].replace(':', '')), read['tcp']['options'])
-        agree_on_status('TCP', packet, first.get('tcp.checksum.status'), read['tcp'])
+        agree_on_status('TCP', packet, first.get('tcp.checksum.status'), read['tcp'], parts)
 
 
 def ask_tshark_of_chain(packet, parts, told, first):
@@ -846,12 +928,16 @@ def ask_tshark_of_chain(packet, parts, told, first):
                   number_of(first[f'ipv6.fraghdr.{end}']), int(header[name]))
 
 
-def agree_on_status(name, packet, status, read):
+def agree_on_status(name, packet, status, read, parts):
     """A checksum that tshark judges; none in IPv4 is right, none in IPv6 is not. Where a sender of
     TCP wrote 0xffff for 0, tshark calls it bad, for what RFC 1624 says to senders; the receiver's
-    sum is all ones, which RFC 1071 section 1 calls right.
+    sum is all ones, which RFC 1071 section 1 calls right. By a routing header that is malformed or
+    of an unknown type tshark goes to an address all the same.
     """
     if status is None or 'right' not in read or name == 'TCP' and read['checksum'] == 0xffff:
+        return
+    if parts['final'] is None:
+        tally['not asked of tshark', 'a checksum for an unknown destination'] += 1
         return
     status = STATUS[number_of(status)]
     if status != 'unverified':

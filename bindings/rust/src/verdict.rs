@@ -5,8 +5,9 @@ use core::fmt;
 /// `none`. The crate `etherparse` has no such type.
 ///
 /// The packets that a host sends look wrong in a capture on that host if its network card computes
-/// their checksums. So do those for which a routing header, a source route or a home address option
-/// names another address: a checksum with a pseudo-header is for that one.
+/// their checksums. So does a checksum with a pseudo-header that covers another address than the
+/// header has, by a source route option of IPv4 or a home address option. That it covers the final
+/// destination of a routing header of IPv6 is seen (RFC 8200 section 8.1).
 #[derive(Clone, Copy, Debug, PartialEq, Eq, Hash)]
 pub enum Verdict {
     /// It is right.
@@ -28,6 +29,9 @@ pub enum Absence {
     Incomplete,
     /// The sender has computed none: the field of UDP over IPv4 is 0 (RFC 768).
     NotComputed,
+    /// It covers the final destination, which a routing header of IPv6 with segments left does not
+    /// tell: its type is none of 0, 2, 3 and 4, or its numbers do not fit its length.
+    UnknownDestination,
 }
 
 impl Verdict {
@@ -40,6 +44,7 @@ impl Verdict {
             ffi::OTHER_PROTOCOL => Verdict::Absent(Absence::OtherProtocol),
             ffi::INCOMPLETE => Verdict::Absent(Absence::Incomplete),
             ffi::NOT_COMPUTED => Verdict::Absent(Absence::NotComputed),
+            ffi::UNKNOWN_DESTINATION => Verdict::Absent(Absence::UnknownDestination),
             _ => return None,
         })
     }

@@ -483,6 +483,15 @@ fn what_is_no_ip_packet_is_a_payload() {
         verdict(&bytes),
         Some(Verdict::Absent(Absence::OtherProtocol))
     );
+    // Segment routing to 2001:db8::4, with one segment left and with none; and an unknown type.
+    let front = "6000000000342b4020010db800000000000000000000000120010db800000000000000000000000";
+    let list = "20010db800000000000000000000000420010db800000000000000000000000304000035000cb850";
+    let routed = |header: &str| bytes_of(&format!("{front}2{header}{list}74657374"));
+    let (left, none, unknown) = ("1104040101000000", "1104040001000000", "1104010100000000");
+    assert_eq!(verdict(&routed(left)), Some(Verdict::Right));
+    assert_eq!(verdict(&routed(none)), Some(Verdict::Wrong));
+    let open = Some(Verdict::Absent(Absence::UnknownDestination));
+    assert_eq!(verdict(&routed(unknown)), open);
     // Address, control, and the number of IPv4: PPP.
     let mut framed = vec![0xff, 3, 0, 0x21];
     framed.extend_from_slice(&bytes_of(TAGGED)[22..58]);

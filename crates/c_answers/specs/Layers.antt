@@ -246,6 +246,7 @@ verdict_in_c (Some (Absent absence.Fragment)) = 3
 verdict_in_c (Some (Absent absence.OtherProtocol)) = 4
 verdict_in_c (Some (Absent absence.Incomplete)) = 5
 verdict_in_c (Some (Absent absence.NotComputed)) = 6
+verdict_in_c (Some (Absent absence.UnknownDestination)) = 7
 
 -- the verdict on the payload, if it was asked for
 abbrev pub IsPayloadVerdict : Bool → Option IpSlice → Option SliceError → ℕ → Type 0

@@ -458,6 +458,7 @@ fn payload_verdict(packet: &SlicedPacket, stop: &Option<SliceError>) -> u8
         Some(Verdict::Absent(Absence::OtherProtocol)) => 4,
         Some(Verdict::Absent(Absence::Incomplete)) => 5,
         Some(Verdict::Absent(Absence::NotComputed)) => 6,
+        Some(Verdict::Absent(Absence::UnknownDestination)) => 7,
     }
 }
 

@@ -30,9 +30,58 @@ static struct etherparse_part part(size_t offset, size_t len)
     return part;
 }
 
+/* Moves a destination to the stop of a routing header that is visited last, the segments left being above 0 (RFC 8200 section
+ * 4.4); whether the header tells it. Its length in bytes is 8 * units + 8. */
+static bool last_stop(const uint8_t *header, uint8_t *destination)
+{
+    size_t units = header[1], left = header[3], stops = 0, place = 0, kept = 0;
+    size_t each = 16 - header[4] / 16, last = 16 - header[4] % 16, padding = header[5] / 16;
+    switch (header[2]) {
+    case 0: /* RFC 2460 section 4.4 */
+        stops = units % 2 == 0 ? units / 2 : 0;
+        place = 8 * units - 8;
+        break;
+    case 2: /* RFC 6275 section 6.4 */
+        stops = units == 2 ? 1 : 0;
+        place = 8;
+        break;
+    case 3: /* RFC 6554 section 3 */
+        if (8 * units >= padding + last && (8 * units - padding - last) % each == 0)
+            stops = (8 * units - padding - last) / each + 1;
+        place = 8 * units + 8 - padding - last;
+        kept = 16 - last;
+        break;
+    case 4: /* RFC 8754 section 2 */
+        stops = 2 * (header[4] + 1u) <= units ? header[4] + 1u : 0;
+        place = 8;
+        break;
+    default:
+        break;
+    }
+    if (left > stops)
+        return false;
+    memcpy(destination + kept, header + place, 16 - kept);
+    return true;
+}
+
+/* The final destination of an IPv6 packet by whole extension headers, in place of its destination (RFC 8200 section 8.1); whether
+ * it is known. */
+static bool final_destination(uint8_t number, const uint8_t *headers, size_t len, uint8_t *destination)
+{
+    for (size_t at = 0; at < len;) {
+        struct etherparse_ipv6_walk_answer walk = reference_ipv6_skip(headers + at, len - at, number);
+        if (number == 43 && headers[at + 3] > 0 && !last_stop(headers + at, destination))
+            return false;
+        number = walk.next_header;
+        at += walk.rest.offset;
+    }
+    return true;
+}
+
 /* What a receiver finds of the checksum of a payload that is whole and no fragment (RFC 768, RFC 9293 section 3.1, RFC 792, RFC
- * 4443 section 2.3, RFC 8200 section 8.1). The header is that of the IP packet. */
-static uint8_t verdict_on(uint8_t version, const uint8_t *header, uint8_t upper, const uint8_t *payload, size_t len)
+ * 4443 section 2.3, RFC 8200 section 8.1). The header is that of the IP packet, and extension headers follow it. */
+static uint8_t verdict_on(uint8_t version, const uint8_t *header, size_t extensions_len, uint8_t upper, const uint8_t *payload,
+    size_t len)
 {
     uint8_t pseudo[40] = {0};
     uint8_t icmp = version == 4 ? 1 : 58;
@@ -45,8 +94,8 @@ static uint8_t verdict_on(uint8_t version, const uint8_t *header, uint8_t upper,
         covered = bits_at(payload, 32, 16);
         if (covered < 8 || covered > len)
             return ETHERPARSE_INCOMPLETE;
-        if (bits_at(payload, 48, 16) == 0)
-            return version == 4 ? ETHERPARSE_NOT_COMPUTED : ETHERPARSE_WRONG;
+        if (bits_at(payload, 48, 16) == 0 && version == 4)
+            return ETHERPARSE_NOT_COMPUTED;
     }
     if (version == 4 && upper != 1) {
         memcpy(pseudo, header + 12, 8);
@@ -56,6 +105,10 @@ static uint8_t verdict_on(uint8_t version, const uint8_t *header, uint8_t upper,
     }
     if (version == 6) {
         memcpy(pseudo, header + 8, 32);
+        if (!final_destination(header[6], header + 40, extensions_len, pseudo + 16))
+            return ETHERPARSE_UNKNOWN_DESTINATION;
+        if (upper == 17 && bits_at(payload, 48, 16) == 0)
+            return ETHERPARSE_WRONG;
         for (size_t i = 0; i < 4; i++)
             pseudo[32 + i] = (uint8_t)(covered >> (24 - 8 * i));
         pseudo[39] = upper;
@@ -218,7 +271,8 @@ static void read_ip(const uint8_t *frame, size_t len, size_t place, bool checksu
     if (checksums)
         packet->payload_checksum = !is_whole ? ETHERPARSE_INCOMPLETE
             : ip->is_fragment                ? ETHERPARSE_FRAGMENT
-                              : verdict_on(version, frame + place, ip->upper, frame + ip->payload.offset, ip->payload.len);
+                              : verdict_on(version, frame + place, ip->extensions.len, ip->upper,
+                                    frame + ip->payload.offset, ip->payload.len);
     read_transport(frame, packet);
 }
 

@@ -513,9 +513,10 @@ struct etherparse_packet_transport {
     uint8_t icmp_code;
 };
 
-/* What a receiver finds of a checksum, with the addresses of the IP header: if a routing header, a
- * source route or a home address option names another address, a checksum with a pseudo-header is
- * for that address, and found wrong. */
+/* What a receiver finds of a checksum. If an IPv6 packet has a routing header with segments left,
+ * that is the receiver at its final destination (RFC 8200 section 8.1). A checksum with a
+ * pseudo-header that covers another address than the IP header has, by a source route option of
+ * IPv4 or a home address option, is found wrong. */
 enum {
     ETHERPARSE_NOT_JUDGED = 0, /* it was not asked for, or there is no such header or packet */
     ETHERPARSE_RIGHT = 1,
@@ -523,7 +524,10 @@ enum {
     ETHERPARSE_FRAGMENT = 3, /* it covers other fragments too */
     ETHERPARSE_OTHER_PROTOCOL = 4, /* none of UDP, TCP, ICMP and ICMPv6 */
     ETHERPARSE_INCOMPLETE = 5, /* not all that it covers is there, or the IP packet is not whole */
-    ETHERPARSE_NOT_COMPUTED = 6 /* the field of UDP over IPv4 is 0 (RFC 768) */
+    ETHERPARSE_NOT_COMPUTED = 6, /* the field of UDP over IPv4 is 0 (RFC 768) */
+    /* a routing header with segments left does not tell the final destination, which it covers:
+     * its type is none of 0, 2, 3 and 4, or its numbers do not fit its length */
+    ETHERPARSE_UNKNOWN_DESTINATION = 7
 };
 
 /* A frame in its layers. */

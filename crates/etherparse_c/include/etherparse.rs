@@ -58,6 +58,7 @@ pub const FRAGMENT: u8 = 3;
 pub const OTHER_PROTOCOL: u8 = 4;
 pub const INCOMPLETE: u8 = 5;
 pub const NOT_COMPUTED: u8 = 6;
+pub const UNKNOWN_DESTINATION: u8 = 7;
 
 pub const LINKTYPE_NULL: u32 = 0;
 pub const LINKTYPE_ETHERNET: u32 = 1;

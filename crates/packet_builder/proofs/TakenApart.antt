@@ -66,6 +66,7 @@ use Rattle.packet_parts.proofs.IpPackets.{ipv4_bytes-told, ipv6_bytes-short}
 use Rattle.packet_parts.proofs.IpParts.{packet_len_4, packet_len_6}
 use Rattle.packet_parts.specs.Checksum.{Covers, IsVerdict, IsVerdictOver, IsWithoutChecksum, ipv4_pieces, ipv6_pseudo_header, udp_checksum, udp_length}
 use Rattle.packet_parts.specs.Extensions.{at_front}
+use Rattle.packet_parts.specs.FinalDestination.{arrives}
 use Rattle.packet_parts.specs.IpSlice.{HasIpParts, IpHeaderParts, IsWhole, header_len_of, header_parts, ip_parts}
 use Rattle.packet_parts.specs.declared.checksum.Verdict.TheVariants.{Right}
 use Rattle.packet_parts.specs.declared.ip_slice.IpHeaderSlice.{IpHeaderSlice}
@@ -334,11 +335,12 @@ header_is (ip.Ipv4 given) (ip.Ipv6 made) protocol len bytes is before = elim bef
 header_is (ip.Ipv6 given) (ip.Ipv4 made) protocol len bytes is before = elim before [ ]
 
 -- the verdict on parts
-same_over : (g h : IpHeaderSlice) (number : ℕ) (payload : List ℕ) → header_parts g ≡ header_parts h → IsVerdictOver g number payload Right → IsVerdictOver h number payload Right
-same_over (version.Ipv4 v) (version.Ipv4 w) number payload same over = let bytes : v.slice.now ≡ w.slice.now = cc in rw bytes at over
-same_over (version.Ipv6 v) (version.Ipv6 w) number payload same over = let bytes : v.slice.now ≡ w.slice.now = cc in rw bytes at over
-same_over (version.Ipv4 v) (version.Ipv6 w) number payload same over = cc
-same_over (version.Ipv6 v) (version.Ipv4 w) number payload same over = cc
+same_over : (g h : IpHeaderSlice) (extensions : List ℕ) (number : ℕ) (payload : List ℕ) → header_parts g ≡ header_parts h → IsVerdictOver g extensions number payload Right
+    → IsVerdictOver h extensions number payload Right
+same_over (version.Ipv4 v) (version.Ipv4 w) extensions number payload same over = let bytes : v.slice.now ≡ w.slice.now = cc in rw bytes at over
+same_over (version.Ipv6 v) (version.Ipv6 w) extensions number payload same over = let bytes : v.slice.now ≡ w.slice.now = cc in rw bytes at over
+same_over (version.Ipv4 v) (version.Ipv6 w) extensions number payload same over = cc
+same_over (version.Ipv6 v) (version.Ipv4 w) extensions number payload same over = cc
 
 some_same : {A : Type 0} {x y : A} → ◌≡◌ {A = Option A} (Some x) (Some y) → y ≡ x
 some_same e = cc
@@ -346,13 +348,14 @@ some_same e = cc
 not_none : {A : Type 0} {x : A} → ◌≡◌ {A = Option A} None (Some x) → ⊥
 not_none e = cc
 
-is_right : (found : Option IpSlice) (net : IpSlice) → option_map ip_parts found ≡ Some (ip_parts net) → net.fragment ≡ None → IsVerdictOver net.header net.upper net.payload.now Right
+is_right : (found : Option IpSlice) (net : IpSlice) → option_map ip_parts found ≡ Some (ip_parts net) → net.fragment ≡ None
+    → IsVerdictOver net.header net.extensions.now net.upper net.payload.now Right
     → IsSomeAnd found (λ slice. IsVerdict slice Right)
 is_right None net same none over = not_none same
 is_right (Some slice) net same none over =
     let parts = some_same same in
-    rw (ap (λ x. x.fragment) (sym parts) ∙ none) (same_over net.header slice.header slice.upper slice.payload.now (ap (λ x. x.header) parts)
-    (rw (ap (λ x. x.upper) parts, ap (λ x. x.payload) parts) at over))
+    rw (ap (λ x. x.fragment) (sym parts) ∙ none) (same_over net.header slice.header slice.extensions.now slice.upper slice.payload.now (ap (λ x. x.header) parts)
+    (rw (ap (λ x. x.extensions) parts, ap (λ x. x.upper) parts, ap (λ x. x.payload) parts) at over))
 
 -- layers that have the same link header, tags, EtherType and IP header
 abbrev made_of : List ℕ → ℕ → List ℕ → TransportParts → Option LinkParts → List (List ℕ) → Option ℕ → IpHeaderParts → Layers
@@ -373,7 +376,7 @@ same_layers payload protocol upper transport links tags types headers = rw (link
 module _ (headers : Headers) (protocol : ℕ) (upper frame : List ℕ) (built : HasHeaders headers protocol upper frame) (alone : IsNoFragment headers.ip) (linked : TagsAreLinked headers)
     (told : IsTrue (tells_ether_type headers.link)) (other : ¬ IsSkippable protocol) (found : TransportSlice)
     (reads : (place : ℕ) → ReadsTransport place (net_of built.ip protocol built.begins.ip upper built.begins.is_ip) (Some found) None)
-    (right : IsVerdictOver (header_of built.ip built.begins.ip built.begins.is_ip) protocol upper Right) where
+    (right : IsVerdictOver (header_of built.ip built.begins.ip built.begins.is_ip) [] protocol upper Right) where
   abbrev p : SlicedPacket
   p = packet headers.ip built.ip protocol built.begins.ip upper built.begins.is_ip built.is_ip alone other found reads headers.link headers.vlan built.begins.link
       built.begins.tags built.begins.is_link built.begins.are_tags
@@ -455,10 +458,16 @@ abbrev icmp_over : IpHeader → ℕ
 icmp_over (ip.Ipv4 h) = 1
 icmp_over (ip.Ipv6 h) = 58
 
+-- a segment that a checksum covers is no extension header
+covered_is_no_extension : (protocol : ℕ) (upper : List ℕ) → Covers 58 protocol upper upper → ¬ IsSkippable protocol
+covered_is_no_extension protocol upper (inl (is, _)) skippable = omega (arith, is, skippable)
+covered_is_no_extension protocol upper (inr (inl (is, _, _))) skippable = omega (arith, is, skippable)
+covered_is_no_extension protocol upper (inr (inr (is, _, _))) skippable = omega (arith, is, skippable)
+
 -- a segment that is covered whole and sums to all ones is found right
 found_right : (given made : IpHeader) (protocol : ℕ) (ip_bytes upper : List ℕ) (is : IsIp made ip_bytes) → IsIpBefore given protocol (length upper) made
     → Covers (icmp_over given) protocol upper upper → ¬ IsWithoutChecksum protocol upper → SumsRight protocol upper given
-    → IsVerdictOver (header_of made ip_bytes is) protocol upper Right
+    → IsVerdictOver (header_of made ip_bytes is) [] protocol upper Right
 found_right (ip.Ipv4 given) (ip.Ipv4 made) protocol ip_bytes upper is before covers there sums =
     let source = is.source ∙ ap (λ h. h.source) before.fields in
     let destination = is.destination ∙ ap (λ h. h.destination) before.fields in (
@@ -471,14 +480,19 @@ found_right (ip.Ipv4 given) (ip.Ipv4 made) protocol ip_bytes upper is before cov
     )
 found_right (ip.Ipv6 given) (ip.Ipv6 made) protocol ip_bytes upper is before covers there sums =
     let source = is.source ∙ ap (λ h. h.source) before in
-    let destination = is.destination ∙ ap (λ h. h.destination) before in (
-      upper,
-      covers,
-      record {
-        there = there;
-        fits = omega (arith, counted_6 made ip_bytes is, ap (λ h. h.payload_length) before);
-        sum = rw (source, destination) sums;
-      },
+    let destination = is.destination ∙ ap (λ h. h.destination) before in
+    let next = is.next_header ∙ ap (λ h. h.next_header) before in (
+      Some (slice_range ip_bytes 24 40),
+      arrives (λ skippable. covered_is_no_extension protocol upper covers (rw next at skippable)),
+      (
+        upper,
+        covers,
+        record {
+          there = there;
+          fits = omega (arith, counted_6 made ip_bytes is, ap (λ h. h.payload_length) before);
+          sum = rw (source, destination) sums;
+        },
+      ),
     )
 found_right (ip.Ipv4 given) (ip.Ipv6 made) protocol ip_bytes upper is before covers there sums = elim before [ ]
 found_right (ip.Ipv6 given) (ip.Ipv4 made) protocol ip_bytes upper is before covers there sums = elim before [ ]

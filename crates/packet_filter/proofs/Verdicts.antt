@@ -3,7 +3,9 @@ use Rattle.std.proofs.Common.{◌≡◌, ◌≢◌, ℕ, List, Option, Some, Non
 use Rattle.packet.specs.SlicedPacket.{IsVerdictOn}
 use Rattle.packet.specs.declared.error.SliceError.{SliceError}
 use Rattle.packet.specs.declared.error.SliceError.TheVariants as error
-use Rattle.packet_parts.specs.Checksum.{Covers, IsVerdictIpv4, IsVerdictIpv6, IsVerdictOver, IsWithoutChecksum, IsRightIpv4, IsRightIpv6}
+use Rattle.packet_parts.specs.Checksum.{Covers, IsVerdictIpv4, IsVerdictIpv6, IsVerdictOver, IsVerdictTo, IsWithoutChecksum, IsRightIpv4, IsRightIpv6}
+use Rattle.packet_parts.proofs.FinalDestinations.{goes_once}
+use Rattle.packet_parts.specs.IpSlice.{destination_of, source_of}
 use Rattle.packet_parts.specs.declared.checksum.Absence.TheVariants as absence
 use Rattle.packet_parts.specs.declared.checksum.Verdict.{Verdict}
 use Rattle.packet_parts.specs.declared.checksum.Verdict.TheVariants.{Right, Wrong, Absent}
@@ -11,7 +13,7 @@ use Rattle.packet_parts.specs.declared.fragment.Fragment.{Fragment}
 use Rattle.packet_parts.specs.declared.ip_slice.IpHeaderSlice.{IpHeaderSlice}
 use Rattle.packet_parts.specs.declared.ip_slice.IpHeaderSlice.TheVariants as header
 use Rattle.packet_parts.specs.declared.ip_slice.IpSlice.{IpSlice}
-use Rattle.std.specs.Prelude.{MatchOption}
+use Rattle.std.specs.Prelude.{MatchOption, slice_index}
 
 covers_once : (icmp number : ℕ) (payload a b : List ℕ) → icmp ≢ 17 → icmp ≢ 6 → Covers icmp number payload a → Covers icmp number payload b → a ≡ b
 covers_once icmp number payload a b u t x y = grind arith
@@ -24,6 +26,7 @@ ipv4_wrong s d p payload Right (a, j, n) (b, k, r) =
     absurd (n (subst (IsRightIpv4 s d p) (covers_once 1 p payload b a (omega arith) (omega arith) k.covers j.covers) r))
 ipv4_wrong s d p payload Wrong w v = refl
 ipv4_wrong s d p payload (Absent absence.Fragment) w v = absurd v
+ipv4_wrong s d p payload (Absent absence.UnknownDestination) w v = absurd v
 ipv4_wrong s d p payload (Absent absence.OtherProtocol) (a, j, n) v = absurd (not_absent 1 p payload a j.covers v)
 ipv4_wrong s d p payload (Absent absence.Incomplete) (a, j, n) v = absurd (v.1 a j.covers)
 ipv4_wrong s d p payload (Absent absence.NotComputed) (a, j, n) (b, k, r) =
@@ -34,16 +37,23 @@ ipv6_wrong s d p payload Right (a, j, n) (b, k, r) =
     absurd (n (subst (IsRightIpv6 s d p) (covers_once 58 p payload b a (omega arith) (omega arith) k j) r))
 ipv6_wrong s d p payload Wrong w v = refl
 ipv6_wrong s d p payload (Absent absence.Fragment) w v = absurd v
+ipv6_wrong s d p payload (Absent absence.UnknownDestination) w v = absurd v
 ipv6_wrong s d p payload (Absent absence.OtherProtocol) (a, j, n) v = absurd (not_absent 58 p payload a j v)
 ipv6_wrong s d p payload (Absent absence.Incomplete) (a, j, n) v = absurd (v.1 a j)
 ipv6_wrong s d p payload (Absent absence.NotComputed) w v = absurd v
 
-over_wrong : (h : IpHeaderSlice) (number : ℕ) (payload : List ℕ) (v : Verdict) → IsVerdictOver h number payload Wrong → IsVerdictOver h number payload v → v ≡ Wrong
-over_wrong (header.Ipv4 view) number payload v = ipv4_wrong _ _ number payload v
-over_wrong (header.Ipv6 view) number payload v = ipv6_wrong _ _ number payload v
+to_wrong : (source : List ℕ) (final : Option (List ℕ)) (number : ℕ) (payload : List ℕ) (v : Verdict) → IsVerdictTo source final number payload Wrong → IsVerdictTo source final number payload v → v ≡ Wrong
+to_wrong source None number payload v w h = absurd w
+to_wrong source (Some destination) number payload v w h = ipv6_wrong source destination number payload v w h
 
-slice_wrong : (ip : IpSlice) (fragment : Option Fragment) (v : Verdict) → MatchOption fragment (IsVerdictOver ip.header ip.upper ip.payload.now Wrong) (λ f. Wrong ≡ Absent absence.Fragment) → MatchOption fragment (IsVerdictOver ip.header ip.upper ip.payload.now v) (λ f. v ≡ Absent absence.Fragment) → v ≡ Wrong
-slice_wrong ip None v w h = over_wrong ip.header ip.upper ip.payload.now v w h
+over_wrong : (h : IpHeaderSlice) (extensions : List ℕ) (number : ℕ) (payload : List ℕ) (v : Verdict) → IsVerdictOver h extensions number payload Wrong → IsVerdictOver h extensions number payload v → v ≡ Wrong
+over_wrong (header.Ipv4 view) extensions number payload v w h = ipv4_wrong _ _ number payload v w h
+over_wrong (header.Ipv6 view) extensions number payload v (a, goes, w) (b, other, h) =
+    let same = goes_once (destination_of (header.Ipv6 view)) (slice_index view.slice.now 6) extensions b a other goes in
+    to_wrong (source_of (header.Ipv6 view)) a number payload v w (subst (λ d. IsVerdictTo (source_of (header.Ipv6 view)) d number payload v) same h)
+
+slice_wrong : (ip : IpSlice) (fragment : Option Fragment) (v : Verdict) → MatchOption fragment (IsVerdictOver ip.header ip.extensions.now ip.upper ip.payload.now Wrong) (λ f. Wrong ≡ Absent absence.Fragment) → MatchOption fragment (IsVerdictOver ip.header ip.extensions.now ip.upper ip.payload.now v) (λ f. v ≡ Absent absence.Fragment) → v ≡ Wrong
+slice_wrong ip None v w h = over_wrong ip.header ip.extensions.now ip.upper ip.payload.now v w h
 slice_wrong ip (Some f) v w h = cc
 
 pub only_wrong : (net : Option IpSlice) (stop : Option SliceError) (v : Verdict) → IsVerdictOn net stop (Some Wrong) → IsVerdictOn net stop (Some v) → v ≡ Wrong

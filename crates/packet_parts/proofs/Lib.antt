@@ -1,5 +1,6 @@
 pub mod Equality
 pub mod ExtensionEnds
+pub mod FinalDestinations
 mod FragmentHeaders
 pub mod IpPackets
 pub mod IpParts

@@ -1,9 +1,10 @@
 -- What a receiver finds of the checksum of UDP, TCP, ICMP or ICMPv6.
 use Rattle.std.specs.Prelude.{ℕ, ◌≡◌, ◌≢◌, ◌==◌, ◌<◌, ◌≤◌, ◌^◌, ◌⊎◌, List, [], ◌∷◌, ◌++◌}
-use Rattle.std.specs.Prelude.{MatchOption, codes, if◌then◌else◌, length, slice_range}
-use Rattle.std.specs.Prelude.{take}
+use Rattle.std.specs.Prelude.{MatchOption, Option, Some, None, codes, if◌then◌else◌, length}
+use Rattle.std.specs.Prelude.{slice_index, slice_range, take}
 use Rattle.std.specs.Int.{from_be_bytes, to_be_bytes, w16, w32}
 use Rattle.etherparse.specs.WordSums.{ones_complement_sum}
+use Rattle.packet_parts.specs.FinalDestination.{GoesTo}
 use Rattle.packet_parts.specs.IpSlice.{destination_of, source_of}
 use Rattle.packet_parts.specs.declared.checksum.Absence.{Absence}
 use Rattle.packet_parts.specs.declared.checksum.Absence.TheVariants as absence
@@ -80,6 +81,7 @@ IsAbsent icmp number payload absence.Incomplete = ((number ≡ 17) ⊎ (number �
     × ((covered : List ℕ) → ¬ Covers icmp number payload covered)
 IsAbsent icmp number payload absence.Fragment = ⊥
 IsAbsent icmp number payload absence.NotComputed = ⊥
+IsAbsent icmp number payload absence.UnknownDestination = ⊥
 
 -- what is judged of the payload of an IPv4 packet: its checksum, which it has
 pub record JudgesIpv4 (protocol : ℕ) (payload covered : List ℕ) : Type 0 where
@@ -105,18 +107,30 @@ IsVerdictIpv6 source destination number payload Wrong = (covered : List ℕ)
     × Covers 58 number payload covered × ¬ IsRightIpv6 source destination number covered
 IsVerdictIpv6 source destination number payload (Absent reason) = IsAbsent 58 number payload reason
 
--- the verdict on the payload of a packet that is no fragment and has this header, whose addresses
--- are taken as they stand
-abbrev pub IsVerdictOver : IpHeaderSlice → ℕ → List ℕ → Verdict → Type 0
-IsVerdictOver (header.Ipv4 view) =
+-- the same, for a final destination that can be unknown: then no checksum can be judged
+abbrev pub IsVerdictTo : List ℕ → Option (List ℕ) → ℕ → List ℕ → Verdict → Type 0
+IsVerdictTo source (Some destination) number payload verdict =
+    IsVerdictIpv6 source destination number payload verdict
+IsVerdictTo source None number payload (Absent absence.UnknownDestination) =
+    (covered : List ℕ) × Covers 58 number payload covered
+IsVerdictTo source None number payload (Absent reason) = IsAbsent 58 number payload reason
+IsVerdictTo source None number payload Right = ⊥
+IsVerdictTo source None number payload Wrong = ⊥
+
+-- The verdict on the payload of a packet that is no fragment and has this header and these
+-- extension headers: with the addresses of an IPv4 header, or with the source and the final
+-- destination of an IPv6 packet.
+abbrev pub IsVerdictOver : IpHeaderSlice → List ℕ → ℕ → List ℕ → Verdict → Type 0
+IsVerdictOver (header.Ipv4 view) extensions =
     IsVerdictIpv4 (source_of (header.Ipv4 view)) (destination_of (header.Ipv4 view))
-IsVerdictOver (header.Ipv6 view) =
-    IsVerdictIpv6 (source_of (header.Ipv6 view)) (destination_of (header.Ipv6 view))
+IsVerdictOver (header.Ipv6 view) extensions = λ number payload verdict. (final : Option (List ℕ))
+    × GoesTo (destination_of (header.Ipv6 view)) (slice_index view.slice.now 6) extensions final
+    × IsVerdictTo (source_of (header.Ipv6 view)) final number payload verdict
 
 -- the verdict on the payload of a packet in these parts, which may be a fragment
 abbrev pub IsVerdict : IpSlice → Verdict → Type 0
 IsVerdict slice verdict = MatchOption slice.fragment
-    (IsVerdictOver slice.header slice.upper slice.payload.now verdict)
+    (IsVerdictOver slice.header slice.extensions.now slice.upper slice.payload.now verdict)
     (λ fragment. verdict ≡ Absent absence.Fragment)
 
 -- the same of one that may not be whole: then it is not known that all is there that its checksum

@@ -1,10 +1,12 @@
 //! The checksums of UDP, TCP, ICMP and ICMPv6: the pseudo-headers that they cover, and what a
 //! receiver finds of them.
 
-ghost use Rattle.std.specs.Prelude.{◌≡◌, ◌≢◌, ◌↔◌, ◌<◌, ◌≤◌, IfErr, IfOk, IsTrue, Some, length};
+ghost use Rattle.std.specs.Prelude.{ℕ, ◌≡◌, ◌≢◌, ◌↔◌, ◌<◌, ◌≤◌, IfErr, IfOk, IsTrue, List, None};
+ghost use Rattle.std.specs.Prelude.{Some, length};
 ghost use Rattle.etherparse.specs.WordSums.{StandsForWords};
 ghost use Rattle.packet_parts.specs.Checksum.{Covers, IsAbsent, IsRightIpv4, IsRightIpv6};
-ghost use Rattle.packet_parts.specs.Checksum.{IsVerdictIpv4, IsVerdictIpv6, IsWithoutChecksum};
+ghost use Rattle.packet_parts.specs.Checksum.{IsVerdictIpv4, IsVerdictIpv6, IsVerdictTo};
+ghost use Rattle.packet_parts.specs.Checksum.{IsWithoutChecksum};
 ghost use Rattle.packet_parts.specs.Checksum.{ipv4_pseudo_header, ipv6_pseudo_header};
 ghost use Rattle.packet_parts.specs.Checksum.{udp_length, verdict_text};
 
@@ -55,6 +57,9 @@ pub enum Absence {
     Incomplete,
     /// The sender has computed none: the field of UDP over IPv4 is 0 (RFC 768).
     NotComputed,
+    /// It covers the final destination, which a routing header of IPv6 with segments left does not
+    /// tell: its type is none of 0, 2, 3 and 4, or its numbers do not fit its length.
+    UnknownDestination,
 }
 
 /// The sum of the pseudo-header of IPv4, from both addresses, the protocol's number and the length
@@ -157,7 +162,7 @@ pub fn ipv4_verdict(
 
 /// The verdict on the checksum of an IPv6 packet's payload that is no fragment, from both addresses
 /// and the number of the payload, which has to end where the payload length says. The destination
-/// is the final one: at the receiver that of the header (RFC 8200 section 8.1).
+/// is the final one (RFC 8200 section 8.1), as [`final_destination`] gives it.
 ///
 /// # Example
 ///
@@ -173,6 +178,8 @@ pub fn ipv4_verdict(
 /// let verdict = ipv6_verdict(source, destination, IpNumber::UDP, &payload);
 /// assert!(rt; verdict == Verdict::Wrong);
 /// ```
+///
+/// [`final_destination`]: crate::final_destination::final_destination
 pub fn ipv6_verdict(
     source: [u8; 16],
     destination: [u8; 16],
@@ -189,6 +196,16 @@ pub fn ipv6_verdict(
                 Verdict::Wrong
             }
         }
+        Err(reason) => Verdict::Absent(reason),
+    }
+}
+
+// The same if the final destination is not known.
+pub(crate) fn verdict_to_unknown(number: IpNumber, payload: &[u8]) -> Verdict
+    ensures judges { (source : List ℕ) → IsVerdictTo source None number payload.now result }
+{
+    match covered(IpNumber::IPV6_ICMP, number, payload) {
+        Ok(_) => Verdict::Absent(Absence::UnknownDestination),
         Err(reason) => Verdict::Absent(reason),
     }
 }

@@ -15,8 +15,9 @@ ghost use Rattle.packet_parts.specs.IpSlice.{ipv6_bytes, placed};
 ghost use Rattle.packet_parts.specs.declared.ip_slice.IpHeaderSlice.TheVariants as Header;
 ghost use Rattle.packet_parts.specs.declared.ip_slice.IpSliceError.TheVariants as Stop;
 
-use crate::checksum::{Absence, Verdict, ipv4_verdict, ipv6_verdict};
+use crate::checksum::{Absence, Verdict, ipv4_verdict, ipv6_verdict, verdict_to_unknown};
 use crate::extensions::after_extensions;
+use crate::final_destination::final_destination;
 use crate::fragment::Fragment;
 use etherparse::err::{Layer, LenError, ipv4, ipv6};
 use etherparse::{IpNumber, Ipv4HeaderSlice, Ipv6Header, Ipv6HeaderSlice, LenSource};
@@ -212,8 +213,9 @@ impl<'a> IpSlice<'a> {
         }
     }
 
-    /// The address of the receiver. It is that of the header, which a routing header (RFC 8200
-    /// section 4.4) or a source route option (RFC 791 section 3.1) can have changed.
+    /// The destination of the header: the next stop of a packet that a routing header (RFC 8200
+    /// section 4.4) or a source route option (RFC 791 section 3.1) sends on. The
+    /// [`final_destination`] of an IPv6 packet can be another one.
     pub fn destination(&self) -> IpAddr
         ensures value { IsAddressIn self.now.header result (destination_of self.now.header) }
     {
@@ -224,10 +226,14 @@ impl<'a> IpSlice<'a> {
     }
 
     /// The verdict on the checksum of the payload: `Absent` of a fragment, or else that of
-    /// [`ipv4_verdict`] or [`ipv6_verdict`] with the addresses of the header. So a packet that a
-    /// routing header or a source route option sends on is `Wrong`, though its last receiver finds
-    /// it right (RFC 8200 section 8.1). The payload is taken for whole: for [`LaxIpSlice::slice`]
-    /// there is [`LaxIpSlice::verdict`].
+    /// [`ipv4_verdict`] with the addresses of the header, or of [`ipv6_verdict`] with its source and
+    /// the [`final_destination`]; if that is not known, a checksum is `Absent(UnknownDestination)`.
+    ///
+    /// A checksum that covers other addresses is found `Wrong`: that of an IPv4 packet which a source
+    /// route option sends on (RFC 791 section 3.1), and that of a mobile node, which covers its home
+    /// address (RFC 6275 section 11.3.1).
+    ///
+    /// The payload is taken for whole: for [`LaxIpSlice::slice`] there is [`LaxIpSlice::verdict`].
     pub fn verdict(&self) -> Verdict
         ensures judges { IsVerdict self.now result }
     {
@@ -237,7 +243,10 @@ impl<'a> IpSlice<'a> {
                 ipv4_verdict(view.source(), view.destination(), self.upper, self.payload)
             }
             (None, IpHeaderSlice::Ipv6(view)) => {
-                ipv6_verdict(view.source(), view.destination(), self.upper, self.payload)
+                match final_destination(view.destination(), view.next_header(), self.extensions) {
+                    Some(last) => ipv6_verdict(view.source(), last, self.upper, self.payload),
+                    None => verdict_to_unknown(self.upper, self.payload),
+                }
             }
         }
     }

@@ -5,6 +5,7 @@
 pub mod address;
 pub mod checksum;
 pub mod extensions;
+pub mod final_destination;
 pub mod fragment;
 pub mod fragment_key;
 pub mod ip_slice;

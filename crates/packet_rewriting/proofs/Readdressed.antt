@@ -147,7 +147,7 @@ with_other_port {before = before} {cut = cut} cuts offset port front rest payloa
       whole = cuts.whole;
       changed = is ∙ rw (first, left, put) refl;
       updates = updated;
-      keeps_right = port_kept slice.header slice.upper offset port slice.payload.now cuts.ports.protocol even within updated;
+      keeps_right = port_kept slice.header slice.extensions.now slice.upper offset port slice.payload.now cuts.ports.protocol even within updated;
     }
 
 -- the addresses of a header have four bytes each

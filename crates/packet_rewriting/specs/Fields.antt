@@ -260,8 +260,9 @@ pub record ChangesPort (offset port : ℕ) (before after : List ℕ) : Type 0 wh
       (updated_upper 1 slice.upper (checksum_field slice.upper slice.payload.now)
       (word_at offset slice.payload.now) (to_be_bytes w16 port))
   -- a checksum that was right is right
-  pub keeps_right : IsVerdictOver slice.header slice.upper slice.payload.now Right
-      → IsVerdictOver slice.header slice.upper
+  pub keeps_right :
+      IsVerdictOver slice.header slice.extensions.now slice.upper slice.payload.now Right
+      → IsVerdictOver slice.header slice.extensions.now slice.upper
       (with_port slice.upper offset (to_be_bytes w16 port) slice.payload.now) Right
 
 -- An IPv4 header has another DSCP or ECN, in byte 1, and its checksum is updated for the first

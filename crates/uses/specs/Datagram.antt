@@ -19,9 +19,11 @@ pub record HasDatagram (packet : List ℕ) (is_right : Bool) : Type 0 where
   pub is_udp : parts.upper ≡ 17
   pub found : IsFoundRight parts is_right
 
--- the payload of the packet is of another protocol, a fragment, or no whole datagram
+-- the payload of the packet is of another protocol, a fragment, or no whole datagram, or it is not
+-- known where the packet goes in the end
 pub record HasNoDatagram (packet : List ℕ) : Type 0 where
   pub parts : IpSlice
   pub is_packet : IsIpPacket packet parts
   pub why : (parts.upper ≢ 17) ⊎ IsVerdict parts (Absent absence.Fragment)
       ⊎ IsVerdict parts (Absent absence.Incomplete)
+      ⊎ IsVerdict parts (Absent absence.UnknownDestination)

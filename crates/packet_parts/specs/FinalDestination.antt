@@ -1,0 +1,89 @@
+-- The final destination of an IPv6 packet, which its checksums cover (RFC 8200 section 8.1). While a
+-- routing header has segments left, the IPv6 header holds the address of the next stop instead.
+use Rattle.std.specs.Prelude.{ℕ, ◌≡◌, ◌+◌, ◌-◌, ◌*◌, ◌/◌, ◌%◌, ◌<◌, ◌≤◌, ◌==◌, ◌&&◌, not}
+use Rattle.std.specs.Prelude.{List, ◌++◌, drop, length, slice_index, slice_range, take}
+use Rattle.std.specs.Prelude.{Option, Some, None, if◌then◌else◌, nat_le}
+use Rattle.etherparse.specs.ExtensionHeaderChain.{required_len_of}
+use Rattle.etherparse.specs.ExtensionHeaders.{IsSkippable}
+
+-- how many addresses of a routing header are still to be visited: byte 3 (RFC 8200 section 4.4)
+abbrev pub segments_left : List ℕ → ℕ
+segments_left header = slice_index header 3
+
+-- type 0: after 8 bytes come addresses, which fill the header and are visited in this order (RFC
+-- 2460 section 4.4)
+abbrev pub last_in_list : List ℕ → Option (List ℕ)
+last_in_list header =
+    if length header % 16 == 8 && nat_le (segments_left header) (length header / 16)
+    then Some (slice_range header (length header - 16) (length header)) else None
+
+-- type 2: after 8 bytes comes one address (RFC 6275 section 6.4)
+abbrev pub only_address : List ℕ → Option (List ℕ)
+only_address header = if length header == 24 && segments_left header == 1
+    then Some (drop 8 header) else None
+
+-- Type 3: each address lacks its first bytes, which are those of the destination (RFC 6554 section
+-- 3). The last one lacks as many as CmprE says, the lower half of byte 4, and each other one as
+-- many as CmprI, the upper half. Pad, the upper half of byte 5, says how many bytes follow the last.
+abbrev pub cmpr_i : List ℕ → ℕ
+cmpr_i header = slice_index header 4 / 16
+
+abbrev pub cmpr_e : List ℕ → ℕ
+cmpr_e header = slice_index header 4 % 16
+
+abbrev pub pad : List ℕ → ℕ
+pad header = slice_index header 5 / 16
+
+-- how many bytes the other addresses have together, which follow the first 8
+abbrev pub others_len : List ℕ → ℕ
+others_len header = length header - (24 - cmpr_e header + pad header)
+
+abbrev pub last_compressed : List ℕ → List ℕ → Option (List ℕ)
+last_compressed destination header =
+    if nat_le (24 - cmpr_e header + pad header) (length header)
+        && (others_len header % (16 - cmpr_i header) == 0
+        && nat_le (segments_left header) (others_len header / (16 - cmpr_i header) + 1))
+    then Some (take (cmpr_e header) destination ++ slice_range header
+        (8 + others_len header) (24 - cmpr_e header + others_len header))
+    else None
+
+-- type 4: after 8 bytes come addresses, which are visited from the last to the first; byte 4 is the
+-- index of the last (RFC 8754 section 2)
+abbrev pub first_in_list : List ℕ → Option (List ℕ)
+first_in_list header = if nat_le (16 * slice_index header 4 + 24) (length header)
+        && nat_le (segments_left header) (slice_index header 4 + 1)
+    then Some (slice_range header 8 24) else None
+
+-- The address that a routing header visits last, by its type in byte 2. There is none if the type is
+-- another one, or if its numbers do not fit its length.
+abbrev pub last_address : List ℕ → List ℕ → Option (List ℕ)
+last_address destination header =
+    if slice_index header 2 == 0 then last_in_list header
+    else (if slice_index header 2 == 2 then only_address header
+    else (if slice_index header 2 == 3 then last_compressed destination header
+    else (if slice_index header 2 == 4 then first_in_list header else None)))
+
+-- The destination after an extension header of a number. A routing header (43) with segments left
+-- makes it its last address; any other header leaves it as it is.
+abbrev pub after_header : List ℕ → ℕ → List ℕ → Option (List ℕ)
+after_header destination number header = if number == 43 && not (segments_left header == 0)
+    then last_address destination header else Some destination
+
+-- The final destination of a packet, from its destination, the number of its first extension header
+-- and the bytes of all of them. It is unknown if a routing header with segments left has no last
+-- address, or a header is incomplete.
+pub data GoesTo : List ℕ → ℕ → List ℕ → Option (List ℕ) → Type 0 where
+  arrives : {destination s : List ℕ} {number : ℕ}
+      → ¬ IsSkippable number → GoesTo destination number s (Some destination)
+  passes : {destination s next : List ℕ} {number : ℕ} {final : Option (List ℕ)}
+      → IsSkippable number → required_len_of number s ≤ length s
+      → after_header destination number (take (required_len_of number s) s) ≡ Some next
+      → GoesTo next (slice_index s 0) (drop (required_len_of number s) s) final
+      → GoesTo destination number s final
+  loses_track : {destination s : List ℕ} {number : ℕ}
+      → IsSkippable number → required_len_of number s ≤ length s
+      → after_header destination number (take (required_len_of number s) s) ≡ None
+      → GoesTo destination number s None
+  is_incomplete : {destination s : List ℕ} {number : ℕ}
+      → IsSkippable number → length s < required_len_of number s
+      → GoesTo destination number s None

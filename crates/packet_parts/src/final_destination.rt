@@ -1,0 +1,149 @@
+//! The final destination of an IPv6 packet, which its checksums cover.
+
+ghost use Rattle.std.specs.Prelude.{ℕ, ◌≡◌, ◌≤◌, List, Option, length};
+ghost use Rattle.packet_parts.specs.FinalDestination.{GoesTo, after_header, first_in_list};
+ghost use Rattle.packet_parts.specs.FinalDestination.{last_address, last_compressed, last_in_list};
+ghost use Rattle.packet_parts.specs.FinalDestination.{only_address, segments_left};
+
+use etherparse::{IpNumber, Ipv6Header};
+
+/// The final destination of an IPv6 packet, which its checksums cover (RFC 8200 section 8.1), from
+/// the destination and the next header of its IPv6 header and the extension headers after it.
+///
+/// It is the destination of the IPv6 header, unless a routing header has segments left: then it is
+/// the address that this visits last. If several have segments left, the last of them counts.
+///
+/// `None` if it is not known: a routing header with segments left has a type other than 0 (RFC 2460
+/// section 4.4), 2 (RFC 6275 section 6.4), 3 (RFC 6554 section 3) and 4 (RFC 8754 section 2), or its
+/// numbers do not fit its length; or an extension header is incomplete. The compressed segments of
+/// RFC 9800 are not looked into.
+///
+/// What follows the fragment header of a later fragment is no header: leave it out, as
+/// [`IpSlice::extensions`] does.
+///
+/// # Example
+///
+/// ```
+/// // A routing header of type 4 with one of two segments left. It visits the first one last.
+/// let header = [
+///     17, 4, 4, 1, 1, 0, 0, 0, 0x20, 0x01, 0x0d, 0xb8, 0, 0, 0, 0, 0, 0, 0, 0, 0, 0, 0, 4, 0x20,
+///     0x01, 0x0d, 0xb8, 0, 0, 0, 0, 0, 0, 0, 0, 0, 0, 0, 3,
+/// ];
+/// let mut destination = [0x20, 0x01, 0x0d, 0xb8, 0, 0, 0, 0, 0, 0, 0, 0, 0, 0, 0, 3];
+/// let last = final_destination(destination, IpNumber::IPV6_ROUTE_HEADER, &header);
+/// destination[15] = 4;
+/// assert!(rt; last == Some(destination));
+/// ```
+///
+/// [`IpSlice::extensions`]: crate::ip_slice::IpSlice
+pub fn final_destination(
+    destination: [u8; 16],
+    first: IpNumber,
+    extensions: &[u8],
+) -> Option<[u8; 16]>
+    ensures goes_to { GoesTo destination first extensions.now result }
+    ensures only { (other : Option (List ℕ)) → GoesTo destination first extensions.now other →
+        other ≡ result }
+{
+    let mut last = destination;
+    let mut number = first;
+    let mut rest = extensions;
+    'headers: loop {
+        if !Ipv6Header::is_skippable_header_extension(number) {
+            return Some(last);
+        }
+        let (next, after) = match Ipv6Header::skip_header_extension_in_slice(rest, number) {
+            Ok(skipped) => skipped,
+            Err(_) => return None,
+        };
+        match after_header(last, number, &rest[..rest.len() - after.len()]) {
+            Some(next) => last = next,
+            None => return None,
+        }
+        number = next;
+        rest = after;
+    }
+}
+
+// The destination after an extension header of a number.
+fn after_header(destination: [u8; 16], number: IpNumber, header: &[u8]) -> Option<[u8; 16]>
+    requires enough { 8 ≤ length header.now }
+    ensures value { result ≡ after_header destination number header.now }
+{
+    if number == IpNumber::IPV6_ROUTE_HEADER && header[3] != 0 {
+        last_address(destination, header)
+    } else {
+        Some(destination)
+    }
+}
+
+// The address that a routing header with segments left visits last.
+fn last_address(destination: [u8; 16], header: &[u8]) -> Option<[u8; 16]>
+    requires enough { 8 ≤ length header.now }
+    requires left { 1 ≤ segments_left header.now }
+    ensures value { result ≡ last_address destination header.now }
+{
+    match header[2] {
+        0 => last_in_list(header),
+        2 => only_address(header),
+        3 => last_compressed(destination, header),
+        4 => first_in_list(header),
+        _ => None,
+    }
+}
+
+// That of type 0.
+fn last_in_list(header: &[u8]) -> Option<[u8; 16]>
+    requires enough { 8 ≤ length header.now }
+    requires left { 1 ≤ segments_left header.now }
+    ensures value { result ≡ last_in_list header.now }
+{
+    let len = header.len();
+    if len % 16 != 8 || len / 16 < usize::from(header[3]) {
+        return None;
+    }
+    Some(*header[len - 16..len].first_chunk::<16>().unwrap())
+}
+
+// That of type 2.
+fn only_address(header: &[u8]) -> Option<[u8; 16]>
+    requires enough { 8 ≤ length header.now }
+    ensures value { result ≡ only_address header.now }
+{
+    if header.len() != 24 || header[3] != 1 {
+        return None;
+    }
+    Some(*header[8..].first_chunk::<16>().unwrap())
+}
+
+// That of type 3, whose first bytes are those of the destination.
+fn last_compressed(destination: [u8; 16], header: &[u8]) -> Option<[u8; 16]>
+    requires enough { 8 ≤ length header.now }
+    ensures value { result ≡ last_compressed destination header.now }
+{
+    let cmpr_e = usize::from(header[4] % 16);
+    let other_len = 16 - usize::from(header[4] / 16);
+    let pad = usize::from(header[5] / 16);
+    if header.len() < 24 - cmpr_e + pad {
+        return None;
+    }
+    let others_len = header.len() - (24 - cmpr_e + pad);
+    if others_len % other_len != 0 || others_len / other_len + 1 < usize::from(header[3]) {
+        return None;
+    }
+    let mut last = destination;
+    last[cmpr_e..].copy_from_slice(&header[8 + others_len..24 - cmpr_e + others_len]);
+    Some(last)
+}
+
+// That of type 4.
+fn first_in_list(header: &[u8]) -> Option<[u8; 16]>
+    requires enough { 8 ≤ length header.now }
+    ensures value { result ≡ first_in_list header.now }
+{
+    let last_entry = usize::from(header[4]);
+    if header.len() < 16 * last_entry + 24 || last_entry + 1 < usize::from(header[3]) {
+        return None;
+    }
+    Some(*header[8..24].first_chunk::<16>().unwrap())
+}
