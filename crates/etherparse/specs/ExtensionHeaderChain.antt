@@ -28,7 +28,7 @@ pub record IsExtensionHeader (number : ℕ) (header : List ℕ) : Type 0 where
   pub len : length header ≡ extension_header_len number (slice_index header 1)
 
 -- How many bytes the header of a number requires of a slice that begins with it. If there are fewer
--- than two, two are required, even for a fragment header: this rule is our own.
+-- than two, two are required, even for a fragment header, as in the Rust crate.
 abbrev pub required_len_of : ℕ → List ℕ → ℕ
 required_len_of number s =
     if nat_lt (length s) 2 then 2 else extension_header_len number (slice_index s 1)

@@ -29,11 +29,11 @@ pub enum Expected {
         /// Whether a parenthesis is open, so that `)` can stand there.
         open: bool,
     },
-    /// After `ip` or `ip6`: what it is asked for, or an operator.
+    /// After `ip` or `ip6`: a word such as `host`, or an operator.
     AfterIp,
-    /// After `arp` or `rarp`: what it is asked for, or an operator.
+    /// After `arp` or `rarp`: a word such as `host`, or an operator.
     AfterNetwork,
-    /// After `tcp`, `udp` or `sctp`: what it is asked for, or an operator.
+    /// After `tcp`, `udp` or `sctp`: a word such as `port`, or an operator.
     AfterTransport,
     /// After `vlan`: an identifier, up to 4095, or an operator.
     AfterVlan,
@@ -41,7 +41,7 @@ pub enum Expected {
     AfterDirection,
     /// After a transport protocol and a direction, such as `tcp src`: `port` or `portrange`.
     AfterTransportDirection,
-    /// After `ether`: what it is asked for.
+    /// After `ether`: a word such as `host`.
     AfterEther,
     /// After `src or` and `src and`: `dst`.
     Destination,

@@ -41,17 +41,17 @@ others_len header = length header - (24 - cmpr_e header + pad header)
 abbrev pub last_compressed : List ℕ → List ℕ → Option (List ℕ)
 last_compressed destination header =
     if nat_le (24 - cmpr_e header + pad header) (length header)
-        && (others_len header % (16 - cmpr_i header) == 0
-        && nat_le (segments_left header) (others_len header / (16 - cmpr_i header) + 1))
+    && (others_len header % (16 - cmpr_i header) == 0
+    && nat_le (segments_left header) (others_len header / (16 - cmpr_i header) + 1))
     then Some (take (cmpr_e header) destination ++ slice_range header
-        (8 + others_len header) (24 - cmpr_e header + others_len header))
+    (8 + others_len header) (24 - cmpr_e header + others_len header))
     else None
 
 -- type 4: after 8 bytes come addresses, which are visited from the last to the first; byte 4 is the
 -- index of the last (RFC 8754 section 2)
 abbrev pub first_in_list : List ℕ → Option (List ℕ)
 first_in_list header = if nat_le (16 * slice_index header 4 + 24) (length header)
-        && nat_le (segments_left header) (slice_index header 4 + 1)
+    && nat_le (segments_left header) (slice_index header 4 + 1)
     then Some (slice_range header 8 24) else None
 
 -- The address that a routing header visits last, by its type in byte 2. There is none if the type is

@@ -212,5 +212,5 @@ port_kept (header.Ipv6 view) extensions number offset port payload ports even wi
       Some last,
       goes,
       port_kept_ipv6 number offset (port / 256 % 256) (port % 256) (slice_range bytes 8 24) last payload ports
-      (omega (arith, view.len, length-take 16 (drop 8 bytes), length-drop 8 bytes)) len even within updates right,
+          (omega (arith, view.len, length-take 16 (drop 8 bytes), length-drop 8 bytes)) len even within updates right,
     )
