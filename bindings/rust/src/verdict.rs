@@ -5,9 +5,9 @@ use core::fmt;
 /// `none`. The crate `etherparse` has no such type.
 ///
 /// The packets that a host sends look wrong in a capture on that host if its network card computes
-/// their checksums. So does a checksum with a pseudo-header that covers another address than the
-/// header has, by a source route option of IPv4 or a home address option. That it covers the final
-/// destination of a routing header of IPv6 is seen (RFC 8200 section 8.1).
+/// their checksums. In IPv6 the final destination is taken (RFC 8200 section 8.1). Source route
+/// options of IPv4 and home address options are not looked into: a checksum whose pseudo-header has
+/// an address of these is found wrong.
 #[derive(Clone, Copy, Debug, PartialEq, Eq, Hash)]
 pub enum Verdict {
     /// It is right.
@@ -25,7 +25,7 @@ pub enum Absence {
     Fragment,
     /// The protocol is none of UDP, TCP, ICMP (over IPv4) and ICMPv6 (over IPv6).
     OtherProtocol,
-    /// Not all the bytes that it covers are there, or the IP packet is not whole.
+    /// Not all bytes that it covers are there, UDP's length is below 8, or the packet is not whole.
     Incomplete,
     /// The sender has computed none: the field of UDP over IPv4 is 0 (RFC 768).
     NotComputed,

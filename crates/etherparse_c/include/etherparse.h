@@ -513,19 +513,18 @@ struct etherparse_packet_transport {
     uint8_t icmp_code;
 };
 
-/* What a receiver finds of a checksum. If an IPv6 packet has a routing header with segments left,
- * that is the receiver at its final destination (RFC 8200 section 8.1). A checksum with a
- * pseudo-header that covers another address than the IP header has, by a source route option of
- * IPv4 or a home address option, is found wrong. */
+/* What a receiver finds of a checksum: in IPv6 the receiver at the final destination (RFC 8200
+ * section 8.1). Source route options of IPv4 and home address options are not looked into: a
+ * checksum whose pseudo-header has an address of these is found wrong. */
 enum {
     ETHERPARSE_NOT_JUDGED = 0, /* it was not asked for, or there is no such header or packet */
     ETHERPARSE_RIGHT = 1,
     ETHERPARSE_WRONG = 2,
     ETHERPARSE_FRAGMENT = 3, /* it covers other fragments too */
-    ETHERPARSE_OTHER_PROTOCOL = 4, /* none of UDP, TCP, ICMP and ICMPv6 */
+    ETHERPARSE_OTHER_PROTOCOL = 4, /* none of UDP, TCP, ICMP over IPv4 and ICMPv6 over IPv6 */
     ETHERPARSE_INCOMPLETE = 5, /* not all that it covers is there, or the IP packet is not whole */
     ETHERPARSE_NOT_COMPUTED = 6, /* the field of UDP over IPv4 is 0 (RFC 768) */
-    /* a routing header with segments left does not tell the final destination, which it covers:
+    /* it covers the final destination, which a routing header with segments left does not tell:
      * its type is none of 0, 2, 3 and 4, or its numbers do not fit its length */
     ETHERPARSE_UNKNOWN_DESTINATION = 7
 };
@@ -539,7 +538,7 @@ struct etherparse_packet {
      * frame. ETHERPARSE_OK if nothing stopped the reading */
     struct etherparse_error stop;
     uint8_t header_checksum; /* of an IPv4 header: NOT_JUDGED, RIGHT or WRONG */
-    uint8_t payload_checksum; /* of UDP, TCP, ICMP or ICMPv6, with its pseudo-header */
+    uint8_t payload_checksum; /* of UDP, TCP, ICMP or ICMPv6: one of the numbers above */
 };
 
 /* Link types, by their numbers in the registry of tcpdump.org, which pcap_datalink returns, with 12

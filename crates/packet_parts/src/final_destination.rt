@@ -1,4 +1,4 @@
-//! The final destination of an IPv6 packet, which its checksums cover.
+//! Where an IPv6 packet with routing headers goes in the end.
 
 ghost use Rattle.std.specs.Prelude.{ℕ, ◌≡◌, ◌≤◌, List, Option, length};
 ghost use Rattle.packet_parts.specs.FinalDestination.{GoesTo, after_header, first_in_list};

@@ -225,9 +225,9 @@ impl<'a> IpSlice<'a> {
         }
     }
 
-    /// The verdict on the checksum of the payload: `Absent` of a fragment, or else that of
-    /// [`ipv4_verdict`] with the addresses of the header, or of [`ipv6_verdict`] with its source and
-    /// the [`final_destination`]; if that is not known, a checksum is `Absent(UnknownDestination)`.
+    /// The verdict on the checksum of the payload: `Absent(Fragment)`, or that of [`ipv4_verdict`]
+    /// with the header's addresses, or that of [`ipv6_verdict`] with its source and the
+    /// [`final_destination`]; if that is unknown, `UnknownDestination` instead of right or wrong.
     ///
     /// A checksum that covers other addresses is found `Wrong`: that of an IPv4 packet which a source
     /// route option sends on (RFC 791 section 3.1), and that of a mobile node, which covers its home
