@@ -6,9 +6,9 @@
 //! repaired. A UDP checksum of 0, which says that there is none, stays 0. A call that fails changes
 //! nothing.
 //!
-//! A change of an address does not look at a routing header, a source route or a home address
-//! option, which can put another address in its place, nor at the checksum of a protocol that is
-//! not known here: a right one can then become wrong.
+//! In IPv6 a checksum is updated for the final destination, which a routing header with segments
+//! left can keep the same (RFC 8200 section 8.1). Source route options of IPv4, home address options
+//! and protocols that are not known here are not looked into: a right checksum can become wrong.
 //!
 //! A checksum and a port are numbers whose high byte comes first in the packet.
 
@@ -189,7 +189,7 @@ checksums! {
 
     /// The checksum that a segment should have over IPv6 (RFC 8200 section 8.1), as
     /// [`calc_checksum_ipv4`] has it over IPv4: that of UDP, TCP or ICMPv6 (RFC 4443 section 2.3).
-    /// In a packet with a routing header, the destination is the last one.
+    /// In a packet with a routing header, the destination is the final one.
     ///
     /// # Errors
     ///

@@ -238,6 +238,29 @@ fn an_address_reaches_as_far_as_a_checksum_covers_it() {
 }
 
 #[test]
+fn another_next_stop_leaves_the_checksum_for_the_final_destination() {
+    // Segment routing to 2001:db8::4, with one segment left.
+    let mut packet = bytes_of(
+        "6000000000342b4020010db800000000000000000000000120010db80000000000000000000000021104040101000000\
+         20010db800000000000000000000000420010db800000000000000000000000304000035000cb85074657374",
+    );
+    let last = packet[80..].to_vec();
+    assert_eq!(set_destination_ipv6(&mut packet, longer(0, 0, 9)), Ok(Reach::Upper));
+    assert_eq!(packet[24..40], longer(0, 0, 9));
+    assert_eq!(packet[80..], last);
+    let verdict = |packet: &[u8]| SlicedPacket::from_ip(packet).unwrap().verdict();
+    assert_eq!(verdict(&packet), Some(Verdict::Right));
+    // With none left, the destination is the final one.
+    packet[43] = 0;
+    assert_eq!(verdict(&packet), Some(Verdict::Wrong));
+    packet[86..88].copy_from_slice(&0xb84bu16.to_be_bytes());
+    assert_eq!(verdict(&packet), Some(Verdict::Right));
+    assert_eq!(set_destination_ipv6(&mut packet, longer(0, 0, 4)), Ok(Reach::Upper));
+    assert_eq!(packet[86..88], [0xb8, 0x50]);
+    assert_eq!(verdict(&packet), Some(Verdict::Right));
+}
+
+#[test]
 fn refused_packets_stay() {
     use RewriteError::*;
     let first = bytes_of("4500001c000020004006e8c3c0a80001c0a800c70400005001020304");

@@ -64,9 +64,7 @@ static bool last_stop(const uint8_t *header, uint8_t *destination)
     return true;
 }
 
-/* The final destination of an IPv6 packet by whole extension headers, in place of its destination (RFC 8200 section 8.1); whether
- * it is known. */
-static bool final_destination(uint8_t number, const uint8_t *headers, size_t len, uint8_t *destination)
+bool reference_final_destination(uint8_t number, const uint8_t *headers, size_t len, uint8_t *destination)
 {
     for (size_t at = 0; at < len;) {
         struct etherparse_ipv6_walk_answer walk = reference_ipv6_skip(headers + at, len - at, number);
@@ -105,7 +103,7 @@ static uint8_t verdict_on(uint8_t version, const uint8_t *header, size_t extensi
     }
     if (version == 6) {
         memcpy(pseudo, header + 8, 32);
-        if (!final_destination(header[6], header + 40, extensions_len, pseudo + 16))
+        if (!reference_final_destination(header[6], header + 40, extensions_len, pseudo + 16))
             return ETHERPARSE_UNKNOWN_DESTINATION;
         if (upper == 17 && bits_at(payload, 48, 16) == 0)
             return ETHERPARSE_WRONG;

@@ -128,23 +128,32 @@ static uint16_t header_checksum(const uint8_t *header, size_t len)
     return (uint16_t)~sum_words(sum_words(0, header, 10), header + 12, len - 12);
 }
 
+/* The addresses that a checksum covers, one after the other; whether they are known. */
+static bool covered_addresses(const uint8_t *packet, const struct etherparse_packet_ip *ip, uint8_t *addresses)
+{
+    memcpy(addresses, packet + (ip->version == 4 ? 12 : 8), ip->version == 4 ? 8 : 32);
+    return ip->version == 4 || reference_final_destination(packet[6], packet + 40, ip->extensions.len, addresses + 16);
+}
+
 /* The checksum of the upper layer of a packet, from all that it covers; 0x10000 if not all of it is there. */
 static uint32_t upper_checksum(const uint8_t *packet, const struct etherparse_packet_ip *ip)
 {
-    const uint8_t *source = packet + (ip->version == 4 ? 12 : 8);
-    struct etherparse_checksum_answer answer = reference_checksum(ip->version, source, source + (ip->version == 4 ? 4 : 16),
+    uint8_t addresses[32];
+    bool known = covered_addresses(packet, ip, addresses);
+    struct etherparse_checksum_answer answer = reference_checksum(ip->version, addresses, addresses + (ip->version == 4 ? 4 : 16),
         ip->upper, packet + ip->payload.offset, ip->payload.len);
-    return ip->is_fragment || answer.error != ETHERPARSE_REWRITING_OK ? 0x10000 : answer.checksum;
+    return ip->is_fragment || !known || answer.error != ETHERPARSE_REWRITING_OK ? 0x10000 : answer.checksum;
 }
 
 /* Writes other bytes at a place in a packet, and the checksums that cover them. */
 static void change(uint8_t *packet, const struct etherparse_packet_ip *ip, size_t place, const uint8_t *bytes, size_t len,
     bool in_header, bool in_upper)
 {
-    uint8_t old_bytes[16];
+    uint8_t old_bytes[16], old_addresses[32], new_addresses[32];
     size_t header_len = ip->header.len, upper_place = ip->payload.offset + checksum_place(ip->upper);
     uint16_t header = 0, upper = 0;
-    bool header_was_computed = false, upper_was_computed = false;
+    bool header_was_computed = false, upper_was_computed = false, known = covered_addresses(packet, ip, old_addresses);
+    bool is_destination = ip->version == 6 && place == 24;
     if (in_header) {
         header = number_at(packet + 10);
         header_was_computed = header == header_checksum(packet, header_len);
@@ -158,9 +167,11 @@ static void change(uint8_t *packet, const struct etherparse_packet_ip *ip, size_
     if (in_header)
         put_number(packet + 10,
             next_checksum(header, header_was_computed, header_checksum(packet, header_len), old_bytes, bytes, len));
+    covered_addresses(packet, ip, new_addresses);
     /* A UDP checksum of 0 says that there is none, and one that would be 0 is sent as all ones (RFC 768). */
-    if (in_upper && !(ip->upper == UDP && upper == 0)) {
-        uint16_t next = next_checksum(upper, upper_was_computed, (uint16_t)upper_checksum(packet, ip), old_bytes, bytes, len);
+    if (in_upper && !(ip->upper == UDP && upper == 0) && !(is_destination && !known)) {
+        uint16_t next = next_checksum(upper, upper_was_computed, (uint16_t)upper_checksum(packet, ip),
+            is_destination ? old_addresses + 16 : old_bytes, is_destination ? new_addresses + 16 : bytes, len);
         put_number(packet + upper_place, ip->upper == UDP && next == 0 ? 0xffff : next);
     }
 }

@@ -72,7 +72,7 @@ struct etherparse_checksum_answer {
  *
  * The segment has to end where the packet's length field says; a UDP datagram ends where its own
  * length field says: set that first. In a packet with a routing header, the destination is the
- * last one.
+ * final one.
  *
  * Errors: OTHER_PROTOCOL, INCOMPLETE, TOO_LONG. */
 struct etherparse_checksum_answer etherparse_checksum_ipv4(const uint8_t source[4],
@@ -90,9 +90,9 @@ uint32_t etherparse_set_checksum_ipv6(const uint8_t source[16], const uint8_t de
  * it (RFC 1624): a right one stays right, and a wrong one is not repaired. A UDP checksum of 0,
  * which says that there is none, stays 0. What comes after the packet stays.
  *
- * A change of an address does not look at a routing header, a source route or a home address
- * option, which can put another address in its place, nor at the checksum of a protocol that is not
- * known here: a right one can then become wrong. */
+ * In IPv6 a checksum is updated for the final destination, which a routing header with segments
+ * left can keep the same (RFC 8200 section 8.1). Source route options of IPv4, home address options
+ * and protocols that are not known here are not looked into: a right checksum can become wrong. */
 
 /* How far the change of an address reaches. */
 enum {

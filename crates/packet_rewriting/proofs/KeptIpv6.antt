@@ -1,5 +1,5 @@
 -- An IPv6 packet with another address, from its parts, and that a checksum that was right is right.
-use Rattle.std.proofs.Common.{ℕ, false, true, ◌≡◌, ◌<◌, ◌≤◌, ◌+◌, ◌∙◌, List, [], ◌∷◌, ◌++◌, ap, arith, drop, inl, inr, length, length-append, length-drop, length-take, refl, subst, sym, take, take_at, w32}
+use Rattle.std.proofs.Common.{ℕ, Bool, None, Option, Some, false, true, if◌then◌else◌, slice_index, ◌==◌, ◌≡◌, ◌<◌, ◌≤◌, ◌+◌, ◌∙◌, List, [], ◌∷◌, ◌++◌, ap, arith, drop, inl, inr, length, length-append, length-drop, length-take, refl, subst, sym, take, take_at, w32}
 use Rattle.std.specs.Int.{to_be_bytes}
 use Rattle.std.proofs.lemmas.Bool.Decides.{nat_tests}
 use Rattle.std.proofs.lemmas.List.{drop_at}
@@ -8,7 +8,10 @@ use Rattle.etherparse.specs.Ipv6Header.{IsIpv6Layout}
 use Rattle.etherparse.specs.Reading.{BeginsWith}
 use Rattle.etherparse.specs.WordSums.{network_order_word_sum, ones_complement_sum}
 use Rattle.etherparse.specs.declared.net.ipv6_header.Ipv6Header.{Ipv6Header}
-use Rattle.packet_parts.specs.Checksum.{Covers, IsVerdictIpv6, ipv6_pseudo_header}
+use Rattle.etherparse.specs.ExtensionHeaderChain.{required_len_of}
+use Rattle.packet_parts.proofs.FinalDestinations.{goes_len, goes_once}
+use Rattle.packet_parts.specs.Checksum.{Covers, IsVerdictIpv6, IsVerdictTo, ipv6_pseudo_header}
+use Rattle.packet_parts.specs.FinalDestination.{GoesTo, after_header, arrives, first_in_list, is_incomplete, last_address, last_compressed, last_in_list, loses_track, only_address, passes}
 use Rattle.packet_parts.specs.IpSlice.{header_bytes}
 use Rattle.packet_parts.specs.declared.checksum.Verdict.TheVariants.{Right}
 use Rattle.packet_parts.specs.declared.ip_slice.IpHeaderSlice.{IpHeaderSlice}
@@ -18,7 +21,7 @@ use Rattle.packet_rewriting.proofs.ChecksumWords.{even_header, in_pieces}
 use Rattle.packet_rewriting.proofs.KeptRight.{field_there, kept_in, of_pieces, same_field, updated_fits, updated_there}
 use Rattle.packet_rewriting.proofs.Readdressed.{least_enough}
 use Rattle.packet_rewriting.proofs.RightChecksums.{covers_enough, covers_written, has_checksum, same_length}
-use Rattle.packet_rewriting.specs.Fields.{CutsIpv6, ReaddressesIpv6, Reaches, UpdatesPayload, UpdatesUpper, covers_addresses, updated_upper, version_in, with_updated}
+use Rattle.packet_rewriting.specs.Fields.{CutsIpv6, KeepsRightIpv6, ReaddressesIpv6, Reaches, UpdatesForDestination, UpdatesForFinal, UpdatesForSource, UpdatesPayload, UpdatesUpper, covers_addresses, updated_upper, version_in, with_updated}
 use Rattle.packet_rewriting.specs.UpperChecksum.{checksum_field, checksum_place, with_checksum}
 use Rattle.packet_rewriting.specs.declared.fields.Cut.{Cut}
 use Rattle.packet_rewriting.specs.declared.fields.Reach.{Reach}
@@ -138,23 +141,118 @@ header_put {after = after} {rest = rest} {put = put} begins is written =
     subst (λ h. BeginsWith IsIpv6Layout after h rest) is
     (subst (BeginsWith IsIpv6Layout after put) (ap (drop 40) begins.whole ∙ drop_at begins.front rest 40 begins.layout.len) written)
 
+-- whether the final destination is known does not depend on the destination
+abbrev SameKnown : Option (List ℕ) → Option (List ℕ) → Type 0
+SameKnown a b = (x : List ℕ) → a ≡ Some x → b ≡ None → ⊥
+
+either_known : (b : Bool) (x y u v : Option (List ℕ)) → SameKnown x u → SameKnown y v → SameKnown (if b then x else y) (if b then u else v)
+either_known true x y u v p q = p
+either_known false x y u v p q = q
+
+itself_known : (a : Option (List ℕ)) → SameKnown a a
+itself_known a x is none = cc
+
+some_known : (a b : List ℕ) → SameKnown (Some a) (Some b)
+some_known a b x is none = cc
+
+after_known : (d e : List ℕ) (n : ℕ) (h : List ℕ) → SameKnown (after_header d n h) (after_header e n h)
+after_known d e n h = either_known _ (last_address d h) (Some d) (last_address e h) (Some e)
+    (either_known _ (last_in_list h) _ (last_in_list h) _ (itself_known (last_in_list h)) (either_known _ (only_address h) _ (only_address h) _ (itself_known (only_address h))
+    (either_known _ (last_compressed d h) _ (last_compressed e h) _ (either_known _ (Some _) None (Some _) None (some_known _ _) (itself_known None))
+    (itself_known (if slice_index h 2 == 4 then first_in_list h else None))))) (some_known d e)
+
+goes_known : (d e : List ℕ) (n : ℕ) (s a : List ℕ) → GoesTo d n s (Some a) → GoesTo e n s None → ⊥
+goes_known d e n s a (arrives other) (passes skippable _ _ _) = other skippable
+goes_known d e n s a (arrives other) (loses_track skippable _ _) = other skippable
+goes_known d e n s a (arrives other) (is_incomplete skippable _) = other skippable
+goes_known d e n s a (passes {next = x} _ _ p g) (passes {next = y} _ _ q h) = goes_known x y (slice_index s 0) (drop (required_len_of n s) s) a g h
+goes_known d e n s a (passes {next = x} _ _ p g) (loses_track _ _ q) = after_known d e n (take (required_len_of n s) s) x p q
+goes_known d e n s a (passes _ enough _ _) (is_incomplete _ short) = omega (arith, enough, short)
+
+-- the addresses of a header have 16 bytes each
+sixteen : {header : Ipv6Header} {bytes : List ℕ} → IsIpv6Layout header bytes → (length header.source ≡ 16) × (length header.destination ≡ 16)
+sixteen {bytes = bytes} l = (
+  omega (arith, l.len, ap length l.source, length-take 16 (drop 8 bytes), length-drop 8 bytes),
+  omega (arith, l.len, ap length l.destination, length-take 16 (drop 24 bytes), length-drop 24 bytes),
+)
+
+-- a checksum that was right is right with another source, and for another final destination
+source_kept_to : (reach : Reach) (slice : IpSlice) (source next final payload : List ℕ) → version_in slice.header ≡ 6 → Reaches slice reach → slice.is_later_fragment ≡ false
+    → length source ≡ 16 → length next ≡ 16 → length final ≡ 16 → UpdatesPayload reach 8 slice.upper source next slice.payload.now payload
+    → IsVerdictIpv6 source final slice.upper slice.payload.now Right → IsVerdictIpv6 next final slice.upper payload Right
+source_kept_to reach slice source next final payload six reaches now a b c updates right =
+    reach_kept_ipv6 reach slice source final next final source next payload (network_order_word_sum final) six reaches now a c b c refl refl updates right
+
+final_kept_to : (reach : Reach) (slice : IpSlice) (source old new payload : List ℕ) → version_in slice.header ≡ 6 → Reaches slice reach → slice.is_later_fragment ≡ false
+    → length source ≡ 16 → length old ≡ 16 → length new ≡ 16 → UpdatesPayload reach 8 slice.upper old new slice.payload.now payload
+    → IsVerdictIpv6 source old slice.upper slice.payload.now Right → IsVerdictIpv6 source new slice.upper payload Right
+final_kept_to reach slice source old new payload six reaches now a b c updates right =
+    reach_kept_ipv6 reach slice source old source new old new payload (network_order_word_sum source) six reaches now a b a c (omega arith) (omega arith) updates right
+
+pub source_kept : {before : List ℕ} {header : Ipv6Header} {cut : Cut} (cuts : CutsIpv6 before header cut) (source payload : List ℕ) → length source ≡ 16
+    → UpdatesForSource source cuts.slice header cut.reach payload → cuts.slice.is_later_fragment ≡ false → KeepsRightIpv6 cuts.slice header (record header { source = source }) payload
+source_kept {header = header} {cut = cut} cuts source payload len updates now None new goes_old goes_new right = absurd right
+source_kept {header = header} {cut = cut} cuts source payload len updates now (Some old) new goes_old goes_new right =
+    let same = goes_once header.destination header.next_header cuts.slice.extensions.now (Some old) new goes_old goes_new in
+    let lens = sixteen cuts.layout in
+    subst (λ final. IsVerdictTo source final cuts.slice.upper payload Right) same (source_kept_to cut.reach cuts.slice header.source source old payload cuts.version cuts.reaches now lens.0 len
+    (goes_len header.destination header.next_header cuts.slice.extensions.now old lens.1 goes_old) updates right)
+
+destination_kept_to : {before : List ℕ} {header : Ipv6Header} {cut : Cut} (cuts : CutsIpv6 before header cut) (destination payload : List ℕ) → length destination ≡ 16
+    → (old new : Option (List ℕ)) → GoesTo header.destination header.next_header cuts.slice.extensions.now old → GoesTo destination header.next_header cuts.slice.extensions.now new
+    → UpdatesForFinal cut.reach cuts.slice.upper old new cuts.slice.payload.now payload → cuts.slice.is_later_fragment ≡ false
+    → IsVerdictTo header.source old cuts.slice.upper cuts.slice.payload.now Right → IsVerdictTo header.source new cuts.slice.upper payload Right
+destination_kept_to cuts destination payload len None new goes_old goes_new updates now right = absurd right
+destination_kept_to {header = header} cuts destination payload len (Some old) None goes_old goes_new updates now right =
+    absurd (goes_known header.destination destination header.next_header cuts.slice.extensions.now old goes_old goes_new)
+destination_kept_to {header = header} {cut = cut} cuts destination payload len (Some old) (Some new) goes_old goes_new updates now right =
+    let lens = sixteen cuts.layout in
+    let extensions = cuts.slice.extensions.now in
+    final_kept_to cut.reach cuts.slice header.source old new payload cuts.version cuts.reaches now lens.0 (goes_len header.destination header.next_header extensions old lens.1 goes_old)
+    (goes_len destination header.next_header extensions new len goes_new) updates right
+
+pub destination_kept : {before : List ℕ} {header : Ipv6Header} {cut : Cut} (cuts : CutsIpv6 before header cut) (destination payload : List ℕ) → length destination ≡ 16
+    → UpdatesForDestination destination cuts.slice header cut.reach payload → cuts.slice.is_later_fragment ≡ false
+    → KeepsRightIpv6 cuts.slice header (record header { destination = destination }) payload
+destination_kept {header = header} {cut = cut} cuts destination payload len updates now old new goes_old goes_new right =
+    let extensions = cuts.slice.extensions.now in
+    let was = goes_once header.destination header.next_header extensions old updates.old goes_old updates.goes_to_old in
+    let is = goes_once destination header.next_header extensions updates.new new updates.goes_to_new goes_new in
+    subst (λ final. IsVerdictTo header.source final cuts.slice.upper payload Right) is
+    (destination_kept_to cuts destination payload len updates.old updates.new updates.goes_to_old updates.goes_to_new updates.updated now
+    (subst (λ final. IsVerdictTo header.source final cuts.slice.upper cuts.slice.payload.now Right) was right))
+
+-- what stands in a packet after its header of 40 bytes
+pub extensions_are : {before : List ℕ} {header : Ipv6Header} {cut : Cut} (cuts : CutsIpv6 before header cut) (front : List ℕ) → front ≡ take cut.header_len before
+    → drop 40 front ≡ cuts.slice.extensions.now
+extensions_are cuts front is = ap (drop 40) (headers_are cuts front is) ∙ drop_at (header_bytes cuts.slice.header) cuts.slice.extensions.now 40 cuts.layout.len
+
+-- the payload that is updated is that of the parts
+pub updated_source : {before : List ℕ} {header : Ipv6Header} {cut : Cut} (cuts : CutsIpv6 before header cut) (source rest payload : List ℕ) → rest ≡ drop cut.header_len before
+    → UpdatesPayload cut.reach 8 cut.upper header.source source (take cut.payload_len rest) payload → UpdatesForSource source cuts.slice header cut.reach payload
+updated_source cuts source rest payload rest_is updates = rw (taken cuts rest rest_is, cuts.upper) at updates
+
+pub updated_destination : {before : List ℕ} {header : Ipv6Header} {cut : Cut} (cuts : CutsIpv6 before header cut) (destination front rest payload : List ℕ) (old new : Option (List ℕ))
+    → front ≡ take cut.header_len before → rest ≡ drop cut.header_len before → GoesTo header.destination header.next_header (drop 40 front) old
+    → GoesTo destination header.next_header (drop 40 front) new → UpdatesForFinal cut.reach cut.upper old new (take cut.payload_len rest) payload
+    → UpdatesForDestination destination cuts.slice header cut.reach payload
+updated_destination {header = header} {cut = cut} cuts destination front rest payload old new front_is rest_is goes_old goes_new updates = record {
+  old = old;
+  new = new;
+  goes_to_old = subst (λ e. GoesTo header.destination header.next_header e old) (extensions_are cuts front front_is) goes_old;
+  goes_to_new = subst (λ e. GoesTo destination header.next_header e new) (extensions_are cuts front front_is) goes_new;
+  updated = subst (λ p. UpdatesForFinal cut.reach cuts.slice.upper old new p payload) (taken cuts rest rest_is)
+      (subst (λ n. UpdatesForFinal cut.reach n old new (take cut.payload_len rest) payload) cuts.upper updates);
+}
+
 -- the packet with another address, from what was written to its parts
-pub readdressed_ipv6 : {before : List ℕ} {header : Ipv6Header} {cut : Cut} (cuts : CutsIpv6 before header cut) (old : Ipv6Header → List ℕ) (change : Ipv6Header → Ipv6Header)
-    (address after first front rest payload : List ℕ) (others : ℕ) → first ≡ take cut.header_len before → rest ≡ drop cut.header_len before
-    → BeginsWith IsIpv6Layout front (change header) (drop 40 first) → UpdatesPayload cut.reach 8 cut.upper (old header) address (take cut.payload_len rest) payload
-    → after ≡ front ++ (payload ++ drop cut.payload_len rest)
-    → network_order_word_sum header.source + network_order_word_sum header.destination ≡ network_order_word_sum (old header) + others
-    → network_order_word_sum (change header).source + network_order_word_sum (change header).destination ≡ network_order_word_sum address + others
-    → length (change header).source ≡ 16 → length (change header).destination ≡ 16
-    → ReaddressesIpv6 old address change before after cut.reach
-readdressed_ipv6 {header = header} {cut = cut} cuts old change address after first front rest payload others first_is rest_is begins updates is words next_words c d =
+pub readdressed_ipv6 : {before : List ℕ} {header : Ipv6Header} {cut : Cut} (cuts : CutsIpv6 before header cut) (Updates : IpSlice → Ipv6Header → Reach → List ℕ → Type 0)
+    (change : Ipv6Header → Ipv6Header) (after first front rest payload : List ℕ) → first ≡ take cut.header_len before → rest ≡ drop cut.header_len before
+    → BeginsWith IsIpv6Layout front (change header) (drop 40 first) → Updates cuts.slice header cut.reach payload → after ≡ front ++ (payload ++ drop cut.payload_len rest)
+    → (cuts.slice.is_later_fragment ≡ false → KeepsRightIpv6 cuts.slice header (change header) payload) → ReaddressesIpv6 Updates change before after cut.reach
+readdressed_ipv6 {header = header} {cut = cut} cuts Updates change after first front rest payload first_is rest_is begins updates is keeps =
     let slice = cuts.slice in
-    let extensions : drop 40 first ≡ slice.extensions.now = ap (drop 40) (headers_are cuts first first_is) ∙ drop_at (header_bytes slice.header) slice.extensions.now 40 cuts.layout.len in
     let left : drop cut.payload_len rest ≡ cuts.trailer = ap (drop cut.payload_len) (others_are cuts rest rest_is) ∙ drop_at slice.payload.now cuts.trailer cut.payload_len (sym cuts.payload_len) in
-    let updated : UpdatesPayload cut.reach 8 slice.upper (old header) address slice.payload.now payload = rw (taken cuts rest rest_is, cuts.upper) at updates in
-    let bytes = header_bytes slice.header in
-    let a : length header.source ≡ 16 = omega (arith, cuts.layout.len, ap length cuts.layout.source, length-take 16 (drop 8 bytes), length-drop 8 bytes) in
-    let b : length header.destination ≡ 16 = omega (arith, cuts.layout.len, ap length cuts.layout.destination, length-take 16 (drop 24 bytes), length-drop 24 bytes) in
     record {
       slice = slice;
       parts = cuts.parts;
@@ -165,10 +263,9 @@ readdressed_ipv6 {header = header} {cut = cut} cuts old change address after fir
       header = header;
       layout = cuts.layout;
       front = front;
-      becomes = subst (BeginsWith IsIpv6Layout front (change header)) extensions begins;
+      becomes = subst (BeginsWith IsIpv6Layout front (change header)) (extensions_are cuts first first_is) begins;
       payload = payload;
-      updated = updated;
+      updated = updates;
       changed = is ∙ ap (λ t. front ++ (payload ++ t)) left;
-      keeps_right = λ now right. reach_kept_ipv6 cut.reach slice header.source header.destination (change header).source (change header).destination (old header) address payload others
-          cuts.version cuts.reaches now a b c d words next_words updated right;
+      keeps_right = keeps;
     }

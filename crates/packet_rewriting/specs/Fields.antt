@@ -16,7 +16,8 @@ use Rattle.etherparse.specs.WordSums.{with_no_zero}
 use Rattle.etherparse.specs.declared.IpEcn.{IpEcn}
 use Rattle.etherparse.specs.declared.net.ipv4_header.Ipv4Header.{Ipv4Header}
 use Rattle.etherparse.specs.declared.net.ipv6_header.Ipv6Header.{Ipv6Header}
-use Rattle.packet_parts.specs.Checksum.{IsVerdictIpv4, IsVerdictIpv6, IsVerdictOver}
+use Rattle.packet_parts.specs.Checksum.{IsVerdictIpv4, IsVerdictOver, IsVerdictTo}
+use Rattle.packet_parts.specs.FinalDestination.{GoesTo}
 use Rattle.packet_parts.specs.IpSlice.{IsIpPacket, RefusesIp, header_bytes, header_len_of}
 use Rattle.packet_parts.specs.IpSlice.{ip_slice_error_text}
 use Rattle.packet_parts.specs.declared.checksum.Verdict.TheVariants.{Right}
@@ -170,9 +171,40 @@ pub record CutsIpv6 (packet : List ℕ) (header : Ipv6Header) (cut : Cut) : Type
   pub whole : packet
       ≡ header_bytes slice.header ++ slice.extensions.now ++ (slice.payload.now ++ trailer)
 
+-- a payload whose checksum is updated for another source
+abbrev pub UpdatesForSource : List ℕ → IpSlice → Ipv6Header → Reach → List ℕ → Type 0
+UpdatesForSource source slice header reach payload =
+    UpdatesPayload reach 8 slice.upper header.source source slice.payload.now payload
+
+-- a payload whose checksum is updated for another final destination, if both are known
+abbrev pub UpdatesForFinal : Reach → ℕ → Option (List ℕ) → Option (List ℕ) → List ℕ → List ℕ
+    → Type 0
+UpdatesForFinal reach number (Some old) (Some new) before after =
+    UpdatesPayload reach 8 number old new before after
+UpdatesForFinal reach number old new before after = after ≡ before
+
+-- A payload whose checksum is updated for another destination: for the final destination that the
+-- packet then has, which a routing header can keep the same.
+pub record UpdatesForDestination (destination : List ℕ) (slice : IpSlice) (header : Ipv6Header)
+    (reach : Reach) (payload : List ℕ) : Type 0 where
+  pub old : Option (List ℕ)
+  pub new : Option (List ℕ)
+  pub goes_to_old : GoesTo header.destination header.next_header slice.extensions.now old
+  pub goes_to_new : GoesTo destination header.next_header slice.extensions.now new
+  pub updated : UpdatesForFinal reach slice.upper old new slice.payload.now payload
+
+-- with another header before the same extension headers, the checksum of another payload is right if
+-- it was before, each for the final destination
+abbrev pub KeepsRightIpv6 : IpSlice → Ipv6Header → Ipv6Header → List ℕ → Type 0
+KeepsRightIpv6 slice header next payload = (old new : Option (List ℕ))
+    → GoesTo header.destination header.next_header slice.extensions.now old
+    → GoesTo next.destination next.next_header slice.extensions.now new
+    → IsVerdictTo header.source old slice.upper slice.payload.now Right
+    → IsVerdictTo next.source new slice.upper payload Right
+
 -- An IPv6 packet has another address in place of the old one, and the checksum of its upper layer
 -- is updated for it. Its extension headers and what the link added after it stay.
-pub record ReaddressesIpv6 (old : Ipv6Header → List ℕ) (address : List ℕ)
+pub record ReaddressesIpv6 (Updates : IpSlice → Ipv6Header → Reach → List ℕ → Type 0)
     (readdressed : Ipv6Header → Ipv6Header) (before after : List ℕ) (reach : Reach) : Type 0 where
   pub slice : IpSlice
   pub parts : IsIpPacket before slice
@@ -187,21 +219,19 @@ pub record ReaddressesIpv6 (old : Ipv6Header → List ℕ) (address : List ℕ)
   pub becomes : BeginsWith IsIpv6Layout front (readdressed header) slice.extensions.now
   -- the payload is another one, or the same
   pub payload : List ℕ
-  pub updated : UpdatesPayload reach 8 slice.upper (old header) address slice.payload.now payload
+  pub updated : Updates slice header reach payload
   pub changed : after ≡ front ++ (payload ++ trailer)
   -- the checksum of a payload that is no later fragment is right if it was before
   pub keeps_right : slice.is_later_fragment ≡ false
-      → IsVerdictIpv6 header.source header.destination slice.upper slice.payload.now Right
-      → IsVerdictIpv6 (readdressed header).source (readdressed header).destination slice.upper
-      payload Right
+      → KeepsRightIpv6 slice header (readdressed header) payload
 
 -- a packet of IPv6 has another source, and another destination
 abbrev pub HasOtherSource : List ℕ → List ℕ → List ℕ → Reach → Type 0
 HasOtherSource source =
-    ReaddressesIpv6 (λ h. h.source) source (λ h. record h { source = source })
+    ReaddressesIpv6 (UpdatesForSource source) (λ h. record h { source = source })
 
 abbrev pub HasOtherDestination : List ℕ → List ℕ → List ℕ → Reach → Type 0
-HasOtherDestination destination = ReaddressesIpv6 (λ h. h.destination) destination
+HasOtherDestination destination = ReaddressesIpv6 (UpdatesForDestination destination)
     (λ h. record h { destination = destination })
 
 -- a word of two bytes, from an offset on

@@ -12,13 +12,15 @@ ghost use Rattle.etherparse.specs.Ipv6Header.{IsIpv6Layout};
 ghost use Rattle.etherparse.specs.Reading.{BeginsWith, too_short_error};
 ghost use Rattle.etherparse.specs.WordSums.{network_order_word_sum};
 ghost use Rattle.etherparse.specs.HeaderChecksum.{with_field_and_checksum};
+ghost use Rattle.packet_parts.specs.FinalDestination.{GoesTo};
 ghost use Rattle.packet_parts.specs.IpSlice.{header_len_of};
 ghost use Rattle.packet_rewriting.specs.Fields.{CutsIpv4, CutsIpv6, EndsInUpper, ReaddressesIpv4};
 ghost use Rattle.packet_rewriting.specs.Fields.{HasOtherDestination, HasOtherSource, Reaches};
 ghost use Rattle.packet_rewriting.specs.Fields.{ChangesPort, CutsAtPorts, HasOtherDscp};
 ghost use Rattle.packet_rewriting.specs.Fields.{HasOtherEcn, MarksIpv4, MarksIpv6};
 ghost use Rattle.packet_rewriting.specs.Fields.{RefusesAddress, RefusesMark, RefusesPort};
-ghost use Rattle.packet_rewriting.specs.Fields.{UpdatesPayload, UpdatesUpper, covers_addresses};
+ghost use Rattle.packet_rewriting.specs.Fields.{UpdatesForFinal, UpdatesPayload, UpdatesUpper};
+ghost use Rattle.packet_rewriting.specs.Fields.{covers_addresses};
 ghost use Rattle.packet_rewriting.specs.Fields.{has_ports, least_len, rewrite_error_text};
 ghost use Rattle.packet_rewriting.specs.Fields.{text_in_any_style, updated_upper, with_port};
 ghost use Rattle.packet_rewriting.specs.Fields.{word_at};
@@ -33,6 +35,7 @@ use etherparse::checksum::{
 use etherparse::err::{Layer, LenError};
 use etherparse::{IpDscp, IpEcn, IpNumber, Ipv4Header, Ipv6Header, LenSource};
 use etherparse_transport::{TcpHeaderSlice, UdpHeader};
+use packet_parts::final_destination::final_destination;
 use packet_parts::ip_slice::{IpHeaderSlice, IpSlice, IpSliceError};
 use std::fmt;
 
@@ -201,8 +204,9 @@ pub fn set_source_ipv6(packet: &mut [u8], source: [u8; 16]) -> Result<Reach, Rew
 }
 
 /// Gives an IPv6 packet another destination address in place, bytes 24 to 39, as
-/// [`set_source_ipv6`] gives it another source address. In a packet with a routing header, the
-/// checksum is updated as if the header's destination were the last one (RFC 8200 section 8.1).
+/// [`set_source_ipv6`] gives it another source address. In a packet with a routing header that has
+/// segments left, the checksum covers the [`final_destination`] (RFC 8200 section 8.1): it is
+/// updated if that becomes another one, and stays if that is unknown.
 ///
 /// # Errors
 ///
@@ -216,11 +220,12 @@ pub fn set_destination_ipv6(packet: &mut [u8], destination: [u8; 16]) -> Result<
         Ok(found) => found,
         Err(e) => return Err(e),
     };
-    let old = destination_in(&header);
-    let next = with_destination(header, destination);
     let (front, rest) = packet.split_at_mut(cut.header_len);
+    let old = final_in(&header, front);
+    let next = with_destination(header, destination);
+    let new = final_in(&next, front);
     put_ipv6(front, &next);
-    update_for_ipv6(&mut rest[..cut.payload_len], &cut, old, destination);
+    update_for_final(&mut rest[..cut.payload_len], &cut, old, new);
     Ok(cut.reach)
 }
 
@@ -399,6 +404,29 @@ fn ipv6_parts(packet: &[u8]) -> Result<(Ipv6Header, Cut), RewriteError>
     match reach_of(&slice) {
         Some(reach) => Ok((view.to_header(), cut_of(&slice, reach))),
         None => Err(RewriteError::Incomplete),
+    }
+}
+
+// The final destination of a packet with a header, whose bytes and extension headers are these.
+fn final_in(header: &Ipv6Header, front: &[u8]) -> Option<[u8; 16]>
+    requires enough { 40 ≤ length front.now }
+    ensures goes_to { GoesTo header.now.destination header.now.next_header (drop 40 front.now)
+        result }
+{
+    let extensions = &front[Ipv6Header::LEN..];
+    final_destination(destination_in(header), header.next_header, extensions)
+}
+
+// Updates the checksum of a payload for another final destination, if both are known.
+fn update_for_final(payload: &mut [u8], cut: &Cut, old: Option<[u8; 16]>, new: Option<[u8; 16]>)
+    requires enough { cut.now.reach ≡ reaching.Upper →
+        checksum_place cut.now.upper + 2 ≤ length payload.now }
+    ensures updated { UpdatesForFinal cut.now.reach cut.now.upper old new payload.old payload.new }
+{
+    if let Some(old) = old {
+        if let Some(new) = new {
+            update_for_ipv6(payload, cut, old, new);
+        }
     }
 }
 

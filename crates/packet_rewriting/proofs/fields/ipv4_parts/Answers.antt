@@ -1,4 +1,4 @@
-use Rattle.std.proofs.Common.{◌≡◌, ◌++◌, ◌∙◌, ap, append_assoc, arith, length, refl, subst, sym}
+use Rattle.std.proofs.Common.{◌≡◌, ◌++◌, ◌∙◌, ap, append_assoc, arith, length, subst, sym}
 use Rattle.etherparse.specs.Ipv4Header.{IsIpv4Layout}
 use Rattle.packet_parts.proofs.IpParts.{ipv4_front}
 use Rattle.packet_parts.specs.IpSlice.{HasIpv4Parts, HasPartsWith, header_bytes}

@@ -1,4 +1,4 @@
-use Rattle.std.proofs.Common.{◌∙◌, ap, arith, refl, subst, sym}
+use Rattle.std.proofs.Common.{◌∙◌, ap, arith, subst, sym}
 use Rattle.etherparse.specs.Ipv6Header.{IsIpv6Layout}
 use Rattle.packet_parts.specs.IpSlice.{header_bytes}
 use Rattle.packet_rewriting.proofs.Readdressed.{whole}

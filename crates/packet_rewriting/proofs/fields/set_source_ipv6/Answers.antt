@@ -1,17 +1,19 @@
 use Rattle.std.proofs.Common.{arith, drop, refl, subst}
-use Rattle.etherparse.specs.WordSums.{network_order_word_sum}
 use Rattle.etherparse.specs.Ipv6Header.{IsIpv6Layout}
 use Rattle.etherparse.specs.Reading.{BeginsWith}
-use Rattle.packet_rewriting.proofs.KeptIpv6.{enough_ipv6, headers_within_ipv6, long_ipv6, payload_len_ipv6, payload_within_ipv6, readdressed_ipv6}
+use Rattle.packet_rewriting.proofs.KeptIpv6.{enough_ipv6, headers_within_ipv6, long_ipv6, payload_len_ipv6, payload_within_ipv6, readdressed_ipv6, source_kept, updated_source}
+use Rattle.packet_rewriting.specs.Fields.{UpdatesForSource}
 use Rattle.packet_rewriting.proofs.fields.set_source_ipv6.Goals as goal
 
 pub returns-clause-changed : goal.returns-clause-changed
 returns-clause-changed c =
     let split = c.split_at_mut-front in
-    readdressed_ipv6 c.in-Ok.ensures.found (λ h. h.source) (λ h. record h { source = c.args.source }) c.args.source _ split.result.0.now c.put_ipv6.new.packet split.result.1.now c.update_for_ipv6.new.payload
-    (network_order_word_sum c.in-Ok.found.0.destination) split.ensures.front split.ensures.back
-    (subst (λ h. BeginsWith IsIpv6Layout c.put_ipv6.new.packet h (drop 40 split.result.0.now)) c.with_source-next.ensures.value c.put_ipv6.ensures.written) (rw c.source_in-old.ensures.value at c.update_for_ipv6.ensures.updated) refl (omega arith) (omega arith)
-    (grind arith) (grind arith)
+    let cuts = c.in-Ok.ensures.found in
+    let updates = updated_source cuts c.args.source _ _ split.ensures.back (rw c.source_in-old.ensures.value at c.update_for_ipv6.ensures.updated) in
+    readdressed_ipv6 cuts (UpdatesForSource c.args.source) (λ h. record h { source = c.args.source }) _ split.result.0.now c.put_ipv6.new.packet split.result.1.now c.update_for_ipv6.new.payload
+    split.ensures.front split.ensures.back
+    (subst (λ h. BeginsWith IsIpv6Layout c.put_ipv6.new.packet h (drop 40 split.result.0.now)) c.with_source-next.ensures.value c.put_ipv6.ensures.written) updates refl
+    (source_kept cuts c.args.source c.update_for_ipv6.new.payload (grind arith) updates)
 
 pub split_at_mut-front-requires : goal.split_at_mut-front-requires
 split_at_mut-front-requires c = headers_within_ipv6 c.in-Ok.ensures.found
