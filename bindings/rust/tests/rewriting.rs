@@ -245,7 +245,10 @@ fn another_next_stop_leaves_the_checksum_for_the_final_destination() {
          20010db800000000000000000000000420010db800000000000000000000000304000035000cb85074657374",
     );
     let last = packet[80..].to_vec();
-    assert_eq!(set_destination_ipv6(&mut packet, longer(0, 0, 9)), Ok(Reach::Upper));
+    assert_eq!(
+        set_destination_ipv6(&mut packet, longer(0, 0, 9)),
+        Ok(Reach::Upper)
+    );
     assert_eq!(packet[24..40], longer(0, 0, 9));
     assert_eq!(packet[80..], last);
     let verdict = |packet: &[u8]| SlicedPacket::from_ip(packet).unwrap().verdict();
@@ -255,7 +258,10 @@ fn another_next_stop_leaves_the_checksum_for_the_final_destination() {
     assert_eq!(verdict(&packet), Some(Verdict::Wrong));
     packet[86..88].copy_from_slice(&0xb84bu16.to_be_bytes());
     assert_eq!(verdict(&packet), Some(Verdict::Right));
-    assert_eq!(set_destination_ipv6(&mut packet, longer(0, 0, 4)), Ok(Reach::Upper));
+    assert_eq!(
+        set_destination_ipv6(&mut packet, longer(0, 0, 4)),
+        Ok(Reach::Upper)
+    );
     assert_eq!(packet[86..88], [0xb8, 0x50]);
     assert_eq!(verdict(&packet), Some(Verdict::Right));
 }
