@@ -6,7 +6,7 @@
 
 #include "reference.h"
 
-enum { MAX_LEN = 600 };
+enum { MAX_LEN = 700 };
 
 /* Numbers that look random, and are the same in each run with a seed; one that is often the most, or 0; one below a bound; as many
  * random bytes. */

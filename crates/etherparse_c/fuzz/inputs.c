@@ -72,9 +72,19 @@ size_t make_chain(uint8_t *at, uint8_t number, uint8_t upper)
 {
     size_t len = 0;
     for (size_t count = below(6); count > 0; count--) {
-        uint8_t words = (uint8_t)below(3);
+        bool is_routing = number == 43 && below(4) != 0;
+        uint8_t words = (uint8_t)below(is_routing ? 6 : 3);
         size_t header = number == 44 ? 8 : number == 51 ? 4 * ((size_t)words + 2) : 8 * ((size_t)words + 1);
         fill(at + len, header);
+        /* A type that is known, and numbers that often fit. */
+        if (is_routing) {
+            at[len + 2] = (uint8_t)below(6);
+            at[len + 3] = (uint8_t)below(4);
+            if (at[len + 2] == 4)
+                at[len + 4] = (uint8_t)below(3);
+            else if (below(2) == 0)
+                at[len + 4] = (uint8_t)(17 * below(16));
+        }
         number = SKIPPABLE[below(8)];
         at[len] = count == 1 ? upper : number;
         at[len + 1] = words;
@@ -114,7 +124,7 @@ void put(uint8_t *at, size_t len, uint64_t number)
 }
 
 /* The checksum of a payload with its pseudo-header, if the sender has computed it. */
-static void complete(uint8_t version, const uint8_t *header, uint8_t upper, uint8_t *payload, size_t len)
+static void complete(uint8_t version, const uint8_t *header, size_t header_len, uint8_t upper, uint8_t *payload, size_t len)
 {
     uint8_t pseudo[40] = {0};
     size_t place = upper == 17 ? 6 : upper == 6 ? 16 : 2;
@@ -127,6 +137,7 @@ static void complete(uint8_t version, const uint8_t *header, uint8_t upper, uint
     }
     if (version == 6) {
         memcpy(pseudo, header + 8, 32);
+        reference_final_destination(header[6], header + 40, header_len - 40, pseudo + 16);
         put(pseudo + 32, 8, (uint64_t)len << 32 | upper);
     }
     uint16_t sum = reference_add(reference_sum(pseudo, 40), reference_sum(payload, len));
@@ -168,7 +179,7 @@ size_t make_ip(uint8_t *at, uint8_t version)
             at[6] = upper;
     }
     size_t payload_len = make_payload(at + len, upper);
-    complete(version, at, upper, at + len, payload_len);
+    complete(version, at, len, upper, at + len, payload_len);
     len += payload_len;
     size_t said = version == 4 ? len : len - 40;
     if (below(8) == 0)
