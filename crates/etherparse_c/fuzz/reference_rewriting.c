@@ -169,7 +169,8 @@ static void change(uint8_t *packet, const struct etherparse_packet_ip *ip, size_
             next_checksum(header, header_was_computed, header_checksum(packet, header_len), old_bytes, bytes, len));
     covered_addresses(packet, ip, new_addresses);
     /* A UDP checksum of 0 says that there is none, and one that would be 0 is sent as all ones (RFC 768). */
-    if (in_upper && !(ip->upper == UDP && upper == 0) && !(is_destination && !known)) {
+    if (in_upper && !(ip->upper == UDP && upper == 0)
+        && !(is_destination && (!known || memcmp(old_addresses + 16, new_addresses + 16, 16) == 0))) {
         uint16_t next = next_checksum(upper, upper_was_computed, (uint16_t)upper_checksum(packet, ip),
             is_destination ? old_addresses + 16 : old_bytes, is_destination ? new_addresses + 16 : bytes, len);
         put_number(packet + upper_place, ip->upper == UDP && next == 0 ? 0xffff : next);

@@ -90,13 +90,15 @@ uint32_t etherparse_set_checksum_ipv6(const uint8_t source[16], const uint8_t de
  * it (RFC 1624): a right one stays right, and a wrong one is not repaired. A UDP checksum of 0,
  * which says that there is none, stays 0. What comes after the packet stays.
  *
- * In IPv6 a checksum is updated for the final destination, which a routing header with segments
- * left can keep the same (RFC 8200 section 8.1). Source route options of IPv4, home address options
- * and protocols that are not known here are not looked into: a right checksum can become wrong. */
+ * In IPv6 a checksum is updated for the final destination (RFC 8200 section 8.1), unless a routing
+ * header keeps that the same or does not tell it. Source route options of IPv4, home address
+ * options and protocols unknown here are not looked into: a right checksum can become wrong. */
 
 /* How far the change of an address reaches. */
 enum {
-    ETHERPARSE_REACH_UPPER = 1, /* the checksum of UDP, TCP or, over IPv6, ICMPv6 is updated too */
+    /* the checksum of UDP, TCP or, over IPv6, ICMPv6 is updated too, but where the final destination
+     * stays the same or is unknown */
+    ETHERPARSE_REACH_UPPER = 1,
     /* the payload is a later fragment: no checksum in it is updated, though that of TCP can be
      * there if the first fragment is short */
     ETHERPARSE_REACH_LATER_FRAGMENT = 2,

@@ -107,7 +107,7 @@ IsVerdictIpv6 source destination number payload Wrong = (covered : List ℕ)
     × Covers 58 number payload covered × ¬ IsRightIpv6 source destination number covered
 IsVerdictIpv6 source destination number payload (Absent reason) = IsAbsent 58 number payload reason
 
--- the same, for a final destination that can be unknown: then no checksum can be judged
+-- the same, for a final destination that can be unknown: then none is told right or wrong
 abbrev pub IsVerdictTo : List ℕ → Option (List ℕ) → ℕ → List ℕ → Verdict → Type 0
 IsVerdictTo source (Some destination) number payload verdict =
     IsVerdictIpv6 source destination number payload verdict

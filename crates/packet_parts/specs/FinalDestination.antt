@@ -1,5 +1,5 @@
--- The final destination of an IPv6 packet, which its checksums cover (RFC 8200 section 8.1). While a
--- routing header has segments left, the IPv6 header holds the address of the next stop instead.
+-- The final destination of an IPv6 packet, which its checksums cover (RFC 8200 section 8.1). While
+-- a routing header has segments left, the IPv6 header holds the address of the next stop instead.
 use Rattle.std.specs.Prelude.{ℕ, ◌≡◌, ◌+◌, ◌-◌, ◌*◌, ◌/◌, ◌%◌, ◌<◌, ◌≤◌, ◌==◌, ◌&&◌, not}
 use Rattle.std.specs.Prelude.{List, ◌++◌, drop, length, slice_index, slice_range, take}
 use Rattle.std.specs.Prelude.{Option, Some, None, if◌then◌else◌, nat_le}
@@ -24,7 +24,7 @@ only_address header = if length header == 24 && segments_left header == 1
 
 -- Type 3: each address lacks its first bytes, which are those of the destination (RFC 6554 section
 -- 3). The last one lacks as many as CmprE says, the lower half of byte 4, and each other one as
--- many as CmprI, the upper half. Pad, the upper half of byte 5, says how many bytes follow the last.
+-- many as CmprI, the upper half. Pad, the upper half of byte 5, says how many bytes follow.
 abbrev pub cmpr_i : List ℕ → ℕ
 cmpr_i header = slice_index header 4 / 16
 
@@ -54,8 +54,8 @@ first_in_list header = if nat_le (16 * slice_index header 4 + 24) (length header
     && nat_le (segments_left header) (slice_index header 4 + 1)
     then Some (slice_range header 8 24) else None
 
--- The address that a routing header visits last, by its type in byte 2. There is none if the type is
--- another one, or if its numbers do not fit its length.
+-- The address that a routing header visits last, by its type in byte 2. There is none if the type
+-- is another one, or if its numbers do not fit its length.
 abbrev pub last_address : List ℕ → List ℕ → Option (List ℕ)
 last_address destination header =
     if slice_index header 2 == 0 then last_in_list header
@@ -71,7 +71,7 @@ after_header destination number header = if number == 43 && not (segments_left h
 
 -- The final destination of a packet, from its destination, the number of its first extension header
 -- and the bytes of all of them. It is unknown if a routing header with segments left has no last
--- address, or a header is incomplete.
+-- address, or a header is incomplete. The compressed segments of RFC 9800 are not looked into.
 pub data GoesTo : List ℕ → ℕ → List ℕ → Option (List ℕ) → Type 0 where
   arrives : {destination s : List ℕ} {number : ℕ}
       → ¬ IsSkippable number → GoesTo destination number s (Some destination)

@@ -14,9 +14,9 @@ use etherparse::{IpNumber, Ipv6Header};
 /// the address that this visits last. If several have segments left, the last of them counts.
 ///
 /// `None` if it is not known: a routing header with segments left has a type other than 0 (RFC 2460
-/// section 4.4), 2 (RFC 6275 section 6.4), 3 (RFC 6554 section 3) and 4 (RFC 8754 section 2), or its
-/// numbers do not fit its length; or an extension header is incomplete. The compressed segments of
-/// RFC 9800 are not looked into.
+/// section 4.4), 2 (RFC 6275 section 6.4), 3 (RFC 6554 section 3) and 4 (RFC 8754 section 2), or
+/// its numbers do not fit its length; or an extension header is incomplete. The compressed segments
+/// of RFC 9800 are not looked into.
 ///
 /// What follows the fragment header of a later fragment is no header: leave it out, as
 /// [`IpSlice::extensions`] does.

@@ -229,9 +229,9 @@ impl<'a> IpSlice<'a> {
     /// with the header's addresses, or that of [`ipv6_verdict`] with its source and the
     /// [`final_destination`]; if that is unknown, `UnknownDestination` instead of right or wrong.
     ///
-    /// A checksum that covers other addresses is found `Wrong`: that of an IPv4 packet which a source
-    /// route option sends on (RFC 791 section 3.1), and that of a mobile node, which covers its home
-    /// address (RFC 6275 section 11.3.1).
+    /// A checksum that covers other addresses is found `Wrong`: that of an IPv4 packet which a
+    /// source route option sends on (RFC 791 section 3.1), and that of a mobile node, which covers
+    /// its home address (RFC 6275 section 11.3.1).
     ///
     /// The payload is taken for whole: for [`LaxIpSlice::slice`] there is [`LaxIpSlice::verdict`].
     pub fn verdict(&self) -> Verdict

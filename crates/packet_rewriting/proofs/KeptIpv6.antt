@@ -205,7 +205,8 @@ destination_kept_to : {before : List ℕ} {header : Ipv6Header} {cut : Cut} (cut
 destination_kept_to cuts destination payload len None new goes_old goes_new updates now right = absurd right
 destination_kept_to {header = header} cuts destination payload len (Some old) None goes_old goes_new updates now right =
     absurd (goes_known header.destination destination header.next_header cuts.slice.extensions.now old goes_old goes_new)
-destination_kept_to {header = header} {cut = cut} cuts destination payload len (Some old) (Some new) goes_old goes_new updates now right =
+destination_kept_to {header = header} cuts destination payload len (Some old) (Some new) goes_old goes_new (inl (same, stays)) now right = rw (sym same, stays) right
+destination_kept_to {header = header} {cut = cut} cuts destination payload len (Some old) (Some new) goes_old goes_new (inr (other, updates)) now right =
     let lens = sixteen cuts.layout in
     let extensions = cuts.slice.extensions.now in
     final_kept_to cut.reach cuts.slice header.source old new payload cuts.version cuts.reaches now lens.0 (goes_len header.destination header.next_header extensions old lens.1 goes_old)

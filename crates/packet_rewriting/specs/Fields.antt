@@ -116,8 +116,8 @@ pub record UpdatesUpper (number checksum old new answer : ℕ) : Type 0 where
   pub udp : number ≡ 17 → UpdatesChecksumWithNoZero checksum old new answer
   pub other : number ≢ 17 → UpdatesChecksum checksum old new answer
 
--- A payload became another one, since so many words became others that its checksum covers: the
--- checksum is updated, or nothing is changed.
+-- A payload after so many words became others that its checksum covers: the checksum is updated, or
+-- the change does not reach the payload.
 pub record UpdatesPayload (reach : Reach) (words number : ℕ) (old new before after : List ℕ)
     : Type 0 where
   pub is : after ≡ reached reach words number old new before
@@ -171,20 +171,22 @@ pub record CutsIpv6 (packet : List ℕ) (header : Ipv6Header) (cut : Cut) : Type
   pub whole : packet
       ≡ header_bytes slice.header ++ slice.extensions.now ++ (slice.payload.now ++ trailer)
 
--- a payload whose checksum is updated for another source
+-- a payload after a change of the source, for which its checksum is updated
 abbrev pub UpdatesForSource : List ℕ → IpSlice → Ipv6Header → Reach → List ℕ → Type 0
 UpdatesForSource source slice header reach payload =
     UpdatesPayload reach 8 slice.upper header.source source slice.payload.now payload
 
--- a payload whose checksum is updated for another final destination, if both are known
+-- a payload after a change of the final destination, for which its checksum is updated; it stays if
+-- that is the same, or unknown
 abbrev pub UpdatesForFinal : Reach → ℕ → Option (List ℕ) → Option (List ℕ) → List ℕ → List ℕ
     → Type 0
 UpdatesForFinal reach number (Some old) (Some new) before after =
-    UpdatesPayload reach 8 number old new before after
+    ((old ≡ new) × (after ≡ before))
+    ⊎ ((old ≢ new) × UpdatesPayload reach 8 number old new before after)
 UpdatesForFinal reach number old new before after = after ≡ before
 
--- A payload whose checksum is updated for another destination: for the final destination that the
--- packet then has, which a routing header can keep the same.
+-- a payload after a change of the destination of its header, and so of the final destination, which
+-- a routing header can keep the same
 pub record UpdatesForDestination (destination : List ℕ) (slice : IpSlice) (header : Ipv6Header)
     (reach : Reach) (payload : List ℕ) : Type 0 where
   pub old : Option (List ℕ)
@@ -193,8 +195,8 @@ pub record UpdatesForDestination (destination : List ℕ) (slice : IpSlice) (hea
   pub goes_to_new : GoesTo destination header.next_header slice.extensions.now new
   pub updated : UpdatesForFinal reach slice.upper old new slice.payload.now payload
 
--- with another header before the same extension headers, the checksum of another payload is right if
--- it was before, each for the final destination
+-- if a payload was right for the final destination of a header, another one is right for that of
+-- the next header, before the same extension headers
 abbrev pub KeepsRightIpv6 : IpSlice → Ipv6Header → Ipv6Header → List ℕ → Type 0
 KeepsRightIpv6 slice header next payload = (old new : Option (List ℕ))
     → GoesTo header.destination header.next_header slice.extensions.now old
@@ -225,7 +227,7 @@ pub record ReaddressesIpv6 (Updates : IpSlice → Ipv6Header → Reach → List 
   pub keeps_right : slice.is_later_fragment ≡ false
       → KeepsRightIpv6 slice header (readdressed header) payload
 
--- a packet of IPv6 has another source, and another destination
+-- a packet of IPv6 has another source; or another destination
 abbrev pub HasOtherSource : List ℕ → List ℕ → List ℕ → Reach → Type 0
 HasOtherSource source =
     ReaddressesIpv6 (UpdatesForSource source) (λ h. record h { source = source })

@@ -81,7 +81,8 @@ impl fmt::Display for RewriteError {
 /// How far the change of an address reaches in a packet.
 #[derive(Clone, Copy, Debug, PartialEq, Eq)]
 pub enum Reach {
-    /// Into the header of UDP, TCP or, over IPv6, ICMPv6, whose checksum is updated too.
+    /// Into the header of UDP, TCP or, over IPv6, ICMPv6, whose checksum is updated too, but where
+    /// [`set_destination_ipv6`] says that it stays.
     Upper,
     /// It ends with the IP header: the payload is a later fragment. No checksum in it is updated:
     /// the one that covers the address is in the first fragment, but that of TCP over IPv4 in a
@@ -158,10 +159,10 @@ pub fn set_destination_ipv4(packet: &mut [u8], destination: [u8; 4]) -> Result<R
     Ok(parts.reach)
 }
 
-/// Gives an IPv6 packet another source address in place: bytes 8 to 23, and the checksum of UDP, TCP
-/// or ICMPv6, if [`Reach`] says so. All else stays the same, also what comes after the packet, and
-/// what covers or replaces the address elsewhere: an authentication header (RFC 4302), a home
-/// address option (RFC 6275 section 6.3).
+/// Gives an IPv6 packet another source address in place: bytes 8 to 23, and the checksum of UDP,
+/// TCP or ICMPv6, if [`Reach`] says so. A UDP checksum of 0 stays 0. All else stays the same, also
+/// what comes after the packet, and an authentication header (RFC 4302). A checksum that covers the
+/// home address of a mobile node instead (RFC 6275 section 11.3.1) becomes wrong.
 ///
 /// # Errors
 ///
@@ -206,7 +207,7 @@ pub fn set_source_ipv6(packet: &mut [u8], source: [u8; 16]) -> Result<Reach, Rew
 /// Gives an IPv6 packet another destination address in place, bytes 24 to 39, as
 /// [`set_source_ipv6`] gives it another source address. In a packet with a routing header that has
 /// segments left, the checksum covers the [`final_destination`] (RFC 8200 section 8.1): it is
-/// updated if that becomes another one, and stays if that is unknown.
+/// updated if that becomes another one, and stays if that is the same or unknown.
 ///
 /// # Errors
 ///
@@ -407,7 +408,8 @@ fn ipv6_parts(packet: &[u8]) -> Result<(Ipv6Header, Cut), RewriteError>
     }
 }
 
-// The final destination of a packet with a header, whose bytes and extension headers are these.
+// The final destination of a packet with a header, after whose 40 bytes there are these extension
+// headers.
 fn final_in(header: &Ipv6Header, front: &[u8]) -> Option<[u8; 16]>
     requires enough { 40 ≤ length front.now }
     ensures goes_to { GoesTo header.now.destination header.now.next_header (drop 40 front.now)
@@ -417,7 +419,7 @@ fn final_in(header: &Ipv6Header, front: &[u8]) -> Option<[u8; 16]>
     final_destination(destination_in(header), header.next_header, extensions)
 }
 
-// Updates the checksum of a payload for another final destination, if both are known.
+// Updates the checksum of a payload if the final destination, known before and after, is another.
 fn update_for_final(payload: &mut [u8], cut: &Cut, old: Option<[u8; 16]>, new: Option<[u8; 16]>)
     requires enough { cut.now.reach ≡ reaching.Upper →
         checksum_place cut.now.upper + 2 ≤ length payload.now }
@@ -425,7 +427,9 @@ fn update_for_final(payload: &mut [u8], cut: &Cut, old: Option<[u8; 16]>, new: O
 {
     if let Some(old) = old {
         if let Some(new) = new {
-            update_for_ipv6(payload, cut, old, new);
+            if old != new {
+                update_for_ipv6(payload, cut, old, new);
+            }
         }
     }
 }
