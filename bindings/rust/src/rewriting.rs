@@ -6,8 +6,8 @@
 //! repaired. A UDP checksum of 0, which says that there is none, stays 0. A call that fails changes
 //! nothing.
 //!
-//! In IPv6 a checksum is updated for the final destination (RFC 8200 section 8.1), unless a routing
-//! header keeps that the same or does not tell it. Source route options of IPv4, home address
+//! A new IPv6 destination updates a checksum for the final one (RFC 8200 section 8.1), unless a
+//! routing header keeps that or does not tell it. Source route options of IPv4, home address
 //! options and protocols unknown here are not looked into: a right checksum can become wrong.
 //!
 //! A checksum and a port are numbers whose high byte comes first in the packet.
@@ -95,8 +95,8 @@ errors! {
 /// How far the change of an address reaches in a packet.
 #[derive(Clone, Copy, Debug, PartialEq, Eq, Hash)]
 pub enum Reach {
-    /// Into the header of UDP, TCP or, over IPv6, ICMPv6, whose checksum is updated too, but where
-    /// the final destination stays the same or is unknown.
+    /// Into the header of UDP, TCP or, over IPv6, ICMPv6, whose checksum is updated too, unless a
+    /// new IPv6 destination leaves the final one the same or unknown.
     Upper,
     /// It ends with the IP header: the payload is a later fragment. No checksum in it is updated,
     /// though that of TCP can be there if the first fragment is short.

@@ -41,8 +41,8 @@ enum {
     ETHERPARSE_REWRITING_PACKET = 5,
     ETHERPARSE_REWRITING_EXTENSIONS = 6, /* the packet ends within an IPv6 extension header */
     ETHERPARSE_REWRITING_OTHER_VERSION = 7, /* the address is one of the other IP version */
-    /* fewer bytes are there than 8 of UDP, 20 of TCP or 4 of ICMP or ICMPv6, as in a first fragment;
-     * or not all that a checksum covers */
+    /* fewer bytes are there than 8 of UDP, 20 of TCP or 4 of ICMP and ICMPv6, as in a first
+     * fragment; for a checksum also: than UDP's length field says, or that field is below 8 */
     ETHERPARSE_REWRITING_INCOMPLETE = 8,
     ETHERPARSE_REWRITING_LATER_FRAGMENT = 9, /* the payload is a later fragment, without ports */
     /* the protocol has no ports, or no checksum, that are known here */
@@ -90,14 +90,14 @@ uint32_t etherparse_set_checksum_ipv6(const uint8_t source[16], const uint8_t de
  * it (RFC 1624): a right one stays right, and a wrong one is not repaired. A UDP checksum of 0,
  * which says that there is none, stays 0. What comes after the packet stays.
  *
- * In IPv6 a checksum is updated for the final destination (RFC 8200 section 8.1), unless a routing
- * header keeps that the same or does not tell it. Source route options of IPv4, home address
- * options and protocols unknown here are not looked into: a right checksum can become wrong. */
+ * A new IPv6 destination updates a checksum for the final one (RFC 8200 section 8.1), unless a
+ * routing header keeps that or does not tell it. Source route options of IPv4, home address options
+ * and protocols unknown here are not looked into: a right checksum can become wrong. */
 
 /* How far the change of an address reaches. */
 enum {
-    /* the checksum of UDP, TCP or, over IPv6, ICMPv6 is updated too, but where the final destination
-     * stays the same or is unknown */
+    /* the checksum of UDP, TCP or, over IPv6, ICMPv6 is updated too, unless a new IPv6 destination
+     * leaves the final one the same or unknown */
     ETHERPARSE_REACH_UPPER = 1,
     /* the payload is a later fragment: no checksum in it is updated, though that of TCP can be
      * there if the first fragment is short */
