@@ -98,7 +98,8 @@ class Library:
         found = next((paths[name] for paths in places if name in paths), [])
         here = self.places[file]
         return max(found, default=None, key=lambda path: (
-            sum(a == b for a, b in zip(path.split('::'), here)), path.endswith(imported.partition('::')[2]), -len(path)))
+            path.split('::')[:-1] == list(here), sum(a == b for a, b in zip(path.split('::'), here)),
+            path.endswith(imported.partition('::')[2]), -len(path)))
 
     def source(self, example, libraries):
         """the module that has an example as a test"""
