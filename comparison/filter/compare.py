@@ -161,6 +161,11 @@ def load_past_the_end(pair):
     return False
 
 
+def place_before_header(pair):
+    """a load whose place is so great that libpcap goes round 2^32 to bytes before the header"""
+    return any(one[0] == 'load' and one[2] > 0xffff0000 for one in pair.primitives)
+
+
 def reserved_address(pair):
     ip = pair.frame.ip
     return (pair.has('ip-multicast') and ip is not None and ip.version == 4
@@ -264,6 +269,7 @@ def is_about_cover(pair):
 INTENDED = [
     ('more after vlan: libpcap then looks for it 4 bytes further', more_after_vlan),
     ('a load of TCP, UDP, SCTP or PIM over IPv6: libpcap has none', transport_load_over_ipv6),
+    ('a load of a place near 2^32: libpcap goes round to the bytes before', place_before_header),
     ('a load past the end of the packet: libpcap rejects the packet', load_past_the_end),
     ('ip multicast, and 240.0.0.0/4: libpcap takes it for multicast', reserved_address),
     ('`& 0xffffffff` and 0: the optimiser of libpcap forgets the comparison', all_32_bits),

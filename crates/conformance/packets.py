@@ -92,10 +92,37 @@ def stops_of(header):
     return []
 
 
+def past_source_route(destination, options):
+    """Where a packet goes past the stops that are left: RFC 791 section 3.1. Each stop takes the
+    address that the pointer tells, and moves that on, as long as the option says one it can take.
+    """
+    place = 0
+    while place < len(options) and options[place] != 0:
+        if options[place] == 1:
+            place += 1
+            continue
+        option = options[place:place + (options[place + 1] if place + 1 < len(options) else 0)]
+        if len(option) < 2 or len(option) < option[1]:
+            break
+        if option[0] in (131, 137):
+            stop, pointer = destination, option[2] if len(option) > 2 else 0
+            while pointer <= len(option):
+                if pointer < 4 or pointer % 4 or pointer + 3 > len(option):
+                    return destination
+                stop = option[pointer - 1:pointer + 3]
+                pointer += 4
+            return stop
+        place += len(option)
+    return destination
+
+
 def final_destination(destination, chain, body):
-    """where a packet goes past the stops that are left, or None: RFC 8200 sections 4.4 and 8.1"""
+    """where a packet goes past the stops that are left, or None: RFC 8200 sections 4.4 and 8.1; a
+    payload header of Shim6 leaves that to its receiver (RFC 5533 section 5.1)"""
     for number, place in chain:
         header = body[place:place + extension_len(number, body[place:])]
+        if number == 140 and header[2] >> 7:
+            return None
         if number == 43 and header[3] > 0:
             stops = stops_of(header)
             if header[3] > len(stops) or header[2] == 2 and header[3] > 1:
@@ -210,7 +237,8 @@ def read_packet(packet):
     parts.update(body=packet[front:end], behind=packet[front:])
     if version == 4:
         return dict(parts, upper=parts['protocol'], payload=parts['body'], place=front,
-                    is_fragment=is_part(parts), final=parts['destination'])
+                    is_fragment=is_part(parts),
+                    final=past_source_route(parts['destination'], parts['options']))
     try:
         chain, upper, place = read_extensions(parts['body'], parts['next_header'])
     except Refused as error:
@@ -427,13 +455,13 @@ def text_of(address):
     return str(ipaddress.ip_address(address))
 
 
-def with_checksum(version, number, datagram, place, change='right', to=FAR6):
+def with_checksum(version, number, datagram, place, change='right', to=None):
     """a datagram with the checksum that scapy makes, or with another one"""
     without = datagram[:place] + bytes(2) + datagram[place + 2:]
     if version == 4:
-        made = in4_chksum(number, IP(src=text_of(NEAR4), dst=text_of(FAR4)), without)
+        made = in4_chksum(number, IP(src=text_of(NEAR4), dst=text_of(to or FAR4)), without)
     else:
-        made = in6_chksum(number, IPv6(src=text_of(NEAR6), dst=text_of(to)), without)
+        made = in6_chksum(number, IPv6(src=text_of(NEAR6), dst=text_of(to or FAR6)), without)
     if number == 17:
         made = made or 0xffff
     made = {'right': made, 'low bit': made ^ 1, 'high bit': made ^ 0x8000, 'none': 0,
@@ -659,6 +687,45 @@ def worked_routing():
                       + segment, 60)
 
 
+def worked_source_routes():
+    one, two, three = (FAR4[:3] + bytes([n]) for n in (0xa1, 0xa2, 0xa3))
+
+    def route(pointer, stops, kind=131, behind=b''):
+        return bytes([kind, 3 + len(stops) + len(behind), pointer]) + stops + behind
+
+    fronts = b'', bytes([1]), bytes([148, 4, 0, 0, 1])
+    stops = b'', one, one + two, one + two + three
+    lists = [front + route(pointer, stop, kind) for front in fronts for stop in stops
+             for kind in (131, 137) for pointer in (4, 8, 12, 16)]
+    lists += [route(pointer, one + two) for pointer in (0, 1, 2, 3, 5, 6, 7, 9, 10, 11, 13, 255)]
+    lists += [route(4, one, behind=bytes(n)) for n in (1, 2, 3)]
+    lists += [bytes([131, 2]), bytes([131, 3, 4]), bytes([131, 1, 4]), bytes([131]),
+              bytes([131, 12, 4]) + one + two, bytes([3]) + route(4, one)[1:],
+              bytes([0]) + route(4, one), bytes([7, 7, 4]) + bytes(4) + route(4, one),
+              bytes([68, 1]) + route(4, one), bytes([68, 40]) + route(4, one),
+              # a second source route
+              route(4, one) + route(4, two), route(8, one) + route(4, two, 137),
+              route(5, one) + route(4, two), route(4, one, 137) + bytes([1]) + route(8, two)]
+    for options in lists:
+        options += bytes(-len(options) % 4)
+        for to in FAR4, one, two, three:
+            data = with_checksum(4, 17, udp(4, counted(5)), 6, to=to)
+            yield in_ipv4(data, 17, options=options)
+    for to in FAR4, two:
+        segment = with_checksum(4, 6, tcp(4, counted(3)), 16, to=to)
+        for pointer in 4, 8, 12:
+            yield in_ipv4(segment, 6, options=route(pointer, one + two) + bytes([0]))
+    yield in_ipv4(echo(4, counted(4)), 1, options=route(4, one) + bytes([0]))
+
+
+def worked_shim6():
+    for control in 0, 0x7f, 0x80, 0xff:
+        for number, body in (17, udp(6, counted(5))), (6, tcp(6, counted(3))), (58, echo(6)):
+            header = bytes([number, 0, control, 0, 1, 2, 3, 4])
+            yield in_ipv6(header + body, 140)
+            yield in_ipv6(extension(60, 140) + header + body, 60)
+
+
 def worked():
     for version in 4, 6:
         for make in worked_udp, worked_tcp, worked_echoes:
@@ -666,6 +733,8 @@ def worked():
     yield from worked_ipv4()
     yield from worked_ipv6()
     yield from worked_routing()
+    yield from worked_source_routes()
+    yield from worked_shim6()
 
 
 # What others tell of the same packets.
@@ -792,6 +861,8 @@ def ask_scapy_of_translation(packet, read):
     parts, made = read['packet'], read['translated']
     name = 'tcp' if parts['upper'] == 6 else 'udp'
     after = translated(packet, read)
+    if parts['final'] != parts['destination']:
+        return
     front = parts['header_len']
     if scapy_checksum(packet[:front]) == 0:
         anew = scapy_checksum(after[:10] + bytes(2) + after[12:front])
@@ -885,9 +956,12 @@ def ask_tshark(packet, read, told):
 
     agree_on_fields('', TOLD_OF_HEADER[parts['version']], parts)
     ip = 'ip' if parts['version'] == 4 else 'ipv6'
-    agree('tshark', 'addresses', packet,
-          [ipaddress.ip_address(first[f'{ip}.{end}']).packed for end in ('src', 'dst')],
-          [parts['source'], parts['destination']])
+    # in IPv4 tshark shows the final destination
+    shows = parts['final'] if parts['version'] == 4 else parts['destination']
+    if parts['version'] == 6 or not has_odd_route(parts['options']):
+        agree('tshark', 'addresses', packet,
+              [ipaddress.ip_address(first[f'{ip}.{end}']).packed for end in ('src', 'dst')],
+              [parts['source'], shows])
     ask_tshark_of_chain(packet, parts, told, first)
     if 'udp' in read and 'udp.srcport' in first:
         agree_on_fields('UDP ', TOLD_OF_UDP, read['udp'])
@@ -932,17 +1006,27 @@ def agree_on_status(name, packet, status, read, parts):
     """A checksum that tshark judges; none in IPv4 is right, none in IPv6 is not. Where a sender of
     TCP wrote 0xffff for 0, tshark calls it bad, for what RFC 1624 says to senders; the receiver's
     sum is all ones, which RFC 1071 section 1 calls right. By a routing header that is malformed or
-    of an unknown type tshark goes to an address all the same.
+    of an unknown type tshark goes to an address all the same, also by a source route whose length
+    does not fit, and a payload header of Shim6 it passes.
     """
     if status is None or 'right' not in read or name == 'TCP' and read['checksum'] == 0xffff:
         return
     if parts['final'] is None:
         tally['not asked of tshark', 'a checksum for an unknown destination'] += 1
         return
+    if parts['version'] == 4 and has_odd_route(parts['options']):
+        tally['not asked of tshark', 'a source route with a part of an address'] += 1
+        return
     status = STATUS[number_of(status)]
     if status != 'unverified':
         agree('tshark', f'{name} checksum', packet, status in ('good', 'not present'),
               read['right'])
+
+
+def has_odd_route(options):
+    """a source route that ends within an address"""
+    return any(kind in (131, 137) and 3 < length < len(options) - i + 1 and length % 4 != 3
+               for i, (kind, length) in enumerate(zip(options, options[1:])))
 
 
 def ask_tshark_of_made(made):
@@ -966,7 +1050,8 @@ def made_of(packet, read):
         else:
             yield 'reply', in_ipv6(message, 58, source=parts['destination'],
                                    destination=parts['source']), {'icmpv6.checksum.status': True}
-    if 'translated' in read:
+    if ('translated' in read and parts['final'] == parts['destination']
+            and not has_odd_route(parts['options'])):
         name = 'tcp' if parts['upper'] == 6 else 'udp'
         expected = {'ip.checksum.status':
                     ones_complement_sum(packet[:parts['header_len']]) == 0xffff}

@@ -6,9 +6,9 @@
 //! repaired. A UDP checksum of 0, which says that there is none, stays 0. A call that fails changes
 //! nothing.
 //!
-//! A new IPv6 destination updates a checksum for the final one (RFC 8200 section 8.1), unless a
-//! routing header keeps that or does not tell it. Source route options of IPv4, home address
-//! options and protocols unknown here are not looked into: a right checksum can become wrong.
+//! A new destination updates a checksum for the final one (RFC 791 section 3.1, RFC 8200 section
+//! 8.1), unless a source route or a routing header keeps that, or it is unknown. Home address
+//! options, Shim6 and protocols unknown here are not looked into: a right checksum can become wrong.
 //!
 //! A checksum and a port are numbers whose high byte comes first in the packet.
 
@@ -96,7 +96,7 @@ errors! {
 #[derive(Clone, Copy, Debug, PartialEq, Eq, Hash)]
 pub enum Reach {
     /// Into the header of UDP, TCP or, over IPv6, ICMPv6, whose checksum is updated too, unless a
-    /// new IPv6 destination leaves the final one the same or unknown.
+    /// new destination leaves the final one the same or unknown.
     Upper,
     /// It ends with the IP header: the payload is a later fragment. No checksum in it is updated,
     /// though that of TCP can be there if the first fragment is short.

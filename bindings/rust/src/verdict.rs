@@ -5,9 +5,9 @@ use core::fmt;
 /// `none`. The crate `etherparse` has no such type.
 ///
 /// The packets that a host sends look wrong in a capture on that host if its network card computes
-/// their checksums. In IPv6 the final destination is taken (RFC 8200 section 8.1). Source route
-/// options of IPv4 and home address options are not looked into: a checksum whose pseudo-header has
-/// an address of these is found wrong.
+/// their checksums. The destination is the final one (RFC 791 section 3.1, RFC 8200 section 8.1).
+/// Home address options are not looked into: a checksum whose pseudo-header has an address of these
+/// is found wrong.
 #[derive(Clone, Copy, Debug, PartialEq, Eq, Hash)]
 pub enum Verdict {
     /// It is right.
@@ -29,8 +29,9 @@ pub enum Absence {
     Incomplete,
     /// The sender has computed none: the field of UDP over IPv4 is 0 (RFC 768).
     NotComputed,
-    /// It covers the final destination, which a routing header of IPv6 with segments left does not
-    /// tell: its type is none of 0, 2, 3 and 4, or its numbers do not fit its length.
+    /// It covers the final destination of an IPv6 packet, which is unknown: a routing header with
+    /// segments left has a type other than 0, 2, 3 and 4, or its numbers do not fit its length; or a
+    /// payload header of Shim6 hides it.
     UnknownDestination,
 }
 

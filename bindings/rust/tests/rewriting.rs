@@ -267,6 +267,35 @@ fn another_next_stop_leaves_the_checksum_for_the_final_destination() {
 }
 
 #[test]
+fn another_next_stop_leaves_the_checksum_for_the_end_of_a_source_route() {
+    // A loose source route to 192.0.2.99, which is left.
+    let mut packet = bytes_of(
+        "470000280000000040110be3c0a80001c0a800c7830704c00002630004000035000c90ba74657374",
+    );
+    let verdict = |packet: &[u8]| SlicedPacket::from_ip(packet).unwrap().verdict();
+    assert_eq!(verdict(&packet), Some(Verdict::Right));
+    assert_eq!(
+        set_destination_ipv4(&mut packet, [10, 0, 0, 9]),
+        Ok(Reach::Upper)
+    );
+    assert_eq!(packet[10..12], [0xc3, 0x49]);
+    assert_eq!(packet[16..20], [10, 0, 0, 9]);
+    assert_eq!(packet[34..36], [0x90, 0xba]);
+    assert_eq!(verdict(&packet), Some(Verdict::Right));
+    // Once it is visited, the destination is the final one.
+    packet[22] = 8;
+    assert_eq!(verdict(&packet), Some(Verdict::Wrong));
+    packet[34..36].copy_from_slice(&0x4915u16.to_be_bytes());
+    assert_eq!(verdict(&packet), Some(Verdict::Right));
+    assert_eq!(
+        set_destination_ipv4(&mut packet, [192, 168, 0, 199]),
+        Ok(Reach::Upper)
+    );
+    assert_eq!(packet[34..36], [0x91, 0xae]);
+    assert_eq!(verdict(&packet), Some(Verdict::Right));
+}
+
+#[test]
 fn refused_packets_stay() {
     use RewriteError::*;
     let first = bytes_of("4500001c000020004006e8c3c0a80001c0a800c70400005001020304");

@@ -312,7 +312,7 @@ IsWholeInC frame_len checksums in_c (Ok packet) =
     IsPacketInC frame_len checksums packet None in_c
 IsWholeInC frame_len checksums in_c (Err e) = in_c ≡ refused_packet (slice_error_in_c e)
 
--- an answer is allowed, and no other, and C gets it
+-- an answer is allowed, and C gets it
 pub record GetsAnswer {A : Type 0} (Allowed : A → Type 0) (InC : A → Type 0) : Type 0 where
   pub answer : A
   pub allowed : Allowed answer

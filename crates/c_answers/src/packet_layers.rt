@@ -141,7 +141,8 @@ pub struct Packet {
     pub header_checksum: u8,
     /// The checksum of the payload of the IP packet: 0 no packet, or not asked for; 1 right; 2
     /// wrong; or none to judge, since 3 it is a fragment, 4 it is of another protocol, 5 not all
-    /// that the checksum covers is there, 6 the sender computed none.
+    /// that the checksum covers is there, 6 the sender computed none, 7 the final destination is
+    /// unknown.
     pub payload_checksum: u8,
 }
 

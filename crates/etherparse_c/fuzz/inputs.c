@@ -56,6 +56,14 @@ size_t make_ipv4(uint8_t *at)
     size_t len = 20 + 4 * below(11);
     fill(at, len);
     at[0] = (uint8_t)(0x40 + len / 4);
+    /* A source route, whose numbers often fit, at times after an option of one byte. */
+    if (len > 27 && below(2) == 0) {
+        size_t place = 20 + below(2), route = 7 + 4 * below((len - place - 3) / 4);
+        at[20] = 1;
+        at[place] = below(2) == 0 ? 131 : 137;
+        at[place + 1] = (uint8_t)(below(8) == 0 ? below(256) : route);
+        at[place + 2] = (uint8_t)(below(4) == 0 ? below(256) : 4 + 4 * below(route / 4 + 1));
+    }
     return len;
 }
 
@@ -133,6 +141,7 @@ static void complete(uint8_t version, const uint8_t *header, size_t header_len, 
     put(payload + place, 2, 0);
     if (version == 4 && upper != 1) {
         memcpy(pseudo, header + 12, 8);
+        reference_source_route(header + 20, header_len - 20, pseudo + 4);
         put(pseudo + 8, 4, (uint64_t)upper << 16 | len);
     }
     if (version == 6) {

@@ -23,6 +23,8 @@ struct etherparse_ipv6_view_answer reference_ipv6_view(const uint8_t *at, size_t
 struct etherparse_ipv6_read_answer reference_ipv6_read(const uint8_t *at, size_t len);
 struct etherparse_ipv6_bytes reference_ipv6_write(const struct etherparse_ipv6_fields *fields);
 struct etherparse_ipv6_fields reference_ipv6_default(void);
+/* The final destination of an IPv4 packet by its options, in place of its destination (RFC 791 section 3.1). */
+void reference_source_route(const uint8_t *options, size_t len, uint8_t *destination);
 /* The final destination of an IPv6 packet by whole extension headers, of which the first has this number, in place of its
  * destination (RFC 8200 section 8.1); whether it is known. */
 bool reference_final_destination(uint8_t number, const uint8_t *headers, size_t len, uint8_t *destination);

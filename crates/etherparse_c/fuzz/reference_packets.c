@@ -64,11 +64,30 @@ static bool last_stop(const uint8_t *header, uint8_t *destination)
     return true;
 }
 
+void reference_source_route(const uint8_t *options, size_t len, uint8_t *destination)
+{
+    for (size_t at = 0, left = len; left > 0 && options[at] != 0; left = len - at) {
+        size_t option_len = options[at] == 1 ? 1 : left > 1 ? options[at + 1] : 0;
+        if (option_len > left || (options[at] != 1 && option_len < 2))
+            return;
+        if (options[at] == 131 || options[at] == 137) {
+            size_t pointer = option_len > 2 ? options[at + 2] : 0;
+            if (pointer > 3 && pointer % 4 == 0 && pointer <= option_len && (option_len - 3) % 4 == 0)
+                memcpy(destination, options + at + option_len - 4, 4);
+            return;
+        }
+        at += option_len;
+    }
+}
+
 bool reference_final_destination(uint8_t number, const uint8_t *headers, size_t len, uint8_t *destination)
 {
     for (size_t at = 0; at < len;) {
         struct etherparse_ipv6_walk_answer walk = reference_ipv6_skip(headers + at, len - at, number);
         if (number == 43 && headers[at + 3] > 0 && !last_stop(headers + at, destination))
+            return false;
+        /* RFC 5533 section 5.1: only its hosts know the addresses of a payload header of Shim6 */
+        if (number == 140 && headers[at + 2] > 127)
             return false;
         number = walk.next_header;
         at += walk.rest.offset;
@@ -77,7 +96,7 @@ bool reference_final_destination(uint8_t number, const uint8_t *headers, size_t 
 }
 
 /* What a receiver finds of the checksum of a payload that is whole and no fragment (RFC 768, RFC 9293 section 3.1, RFC 792, RFC
- * 4443 section 2.3, RFC 8200 section 8.1). The header is that of the IP packet, and extension headers follow it. */
+ * 4443 section 2.3, RFC 8200 section 8.1). The header is that of the IP packet, and options or extension headers follow it. */
 static uint8_t verdict_on(uint8_t version, const uint8_t *header, size_t extensions_len, uint8_t upper, const uint8_t *payload,
     size_t len)
 {
@@ -97,6 +116,7 @@ static uint8_t verdict_on(uint8_t version, const uint8_t *header, size_t extensi
     }
     if (version == 4 && upper != 1) {
         memcpy(pseudo, header + 12, 8);
+        reference_source_route(header + 20, 4 * (header[0] % 16u) - 20, pseudo + 4);
         pseudo[9] = upper;
         pseudo[10] = (uint8_t)(covered / 256);
         pseudo[11] = (uint8_t)(covered % 256);

@@ -132,6 +132,8 @@ static uint16_t header_checksum(const uint8_t *header, size_t len)
 static bool covered_addresses(const uint8_t *packet, const struct etherparse_packet_ip *ip, uint8_t *addresses)
 {
     memcpy(addresses, packet + (ip->version == 4 ? 12 : 8), ip->version == 4 ? 8 : 32);
+    if (ip->version == 4)
+        reference_source_route(packet + 20, ip->header.len - 20, addresses + 4);
     return ip->version == 4 || reference_final_destination(packet[6], packet + 40, ip->extensions.len, addresses + 16);
 }
 
@@ -153,7 +155,9 @@ static void change(uint8_t *packet, const struct etherparse_packet_ip *ip, size_
     size_t header_len = ip->header.len, upper_place = ip->payload.offset + checksum_place(ip->upper);
     uint16_t header = 0, upper = 0;
     bool header_was_computed = false, upper_was_computed = false, known = covered_addresses(packet, ip, old_addresses);
-    bool is_destination = ip->version == 6 && place == 24;
+    size_t address_len = ip->version == 4 ? 4 : 16;
+    bool is_destination = place == (ip->version == 4 ? 16 : 24);
+    uint8_t *old_final = old_addresses + address_len, *new_final = new_addresses + address_len;
     if (in_header) {
         header = number_at(packet + 10);
         header_was_computed = header == header_checksum(packet, header_len);
@@ -170,9 +174,9 @@ static void change(uint8_t *packet, const struct etherparse_packet_ip *ip, size_
     covered_addresses(packet, ip, new_addresses);
     /* A UDP checksum of 0 says that there is none, and one that would be 0 is sent as all ones (RFC 768). */
     if (in_upper && !(ip->upper == UDP && upper == 0)
-        && !(is_destination && (!known || memcmp(old_addresses + 16, new_addresses + 16, 16) == 0))) {
+        && !(is_destination && (!known || memcmp(old_final, new_final, address_len) == 0))) {
         uint16_t next = next_checksum(upper, upper_was_computed, (uint16_t)upper_checksum(packet, ip),
-            is_destination ? old_addresses + 16 : old_bytes, is_destination ? new_addresses + 16 : bytes, len);
+            is_destination ? old_final : old_bytes, is_destination ? new_final : bytes, len);
         put_number(packet + upper_place, ip->upper == UDP && next == 0 ? 0xffff : next);
     }
 }

@@ -513,9 +513,9 @@ struct etherparse_packet_transport {
     uint8_t icmp_code;
 };
 
-/* What a receiver finds of a checksum: in IPv6 the receiver at the final destination (RFC 8200
- * section 8.1). Source route options of IPv4 and home address options are not looked into: a
- * checksum whose pseudo-header has an address of these is found wrong. */
+/* What a receiver finds of a checksum: the receiver at the final destination (RFC 791 section 3.1,
+ * RFC 8200 section 8.1). Home address options are not looked into: a checksum whose pseudo-header
+ * has an address of these is found wrong. */
 enum {
     ETHERPARSE_NOT_JUDGED = 0, /* it was not asked for, or there is no such header or packet */
     ETHERPARSE_RIGHT = 1,
@@ -524,8 +524,8 @@ enum {
     ETHERPARSE_OTHER_PROTOCOL = 4, /* none of UDP, TCP, ICMP over IPv4 and ICMPv6 over IPv6 */
     ETHERPARSE_INCOMPLETE = 5, /* not all that it covers is there, or the IP packet is not whole */
     ETHERPARSE_NOT_COMPUTED = 6, /* the field of UDP over IPv4 is 0 (RFC 768) */
-    /* it covers the final destination, which a routing header with segments left does not tell:
-     * its type is none of 0, 2, 3 and 4, or its numbers do not fit its length */
+    /* it covers the final destination, which is unknown: a routing header with segments left has a
+     * type other than 0, 2, 3 and 4, or numbers that do not fit its length; or Shim6 hides it */
     ETHERPARSE_UNKNOWN_DESTINATION = 7
 };
 

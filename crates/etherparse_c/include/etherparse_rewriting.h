@@ -90,13 +90,14 @@ uint32_t etherparse_set_checksum_ipv6(const uint8_t source[16], const uint8_t de
  * it (RFC 1624): a right one stays right, and a wrong one is not repaired. A UDP checksum of 0,
  * which says that there is none, stays 0. What comes after the packet stays.
  *
- * A new IPv6 destination updates a checksum for the final one (RFC 8200 section 8.1), unless a
- * routing header keeps that or does not tell it. Source route options of IPv4, home address options
- * and protocols unknown here are not looked into: a right checksum can become wrong. */
+ * A new destination updates a checksum for the final one (RFC 791 section 3.1, RFC 8200 section
+ * 8.1), unless a source route or a routing header keeps that, or it is unknown. Home address
+ * options, Shim6 and protocols unknown here are not looked into: a right checksum can become wrong.
+ */
 
 /* How far the change of an address reaches. */
 enum {
-    /* the checksum of UDP, TCP or, over IPv6, ICMPv6 is updated too, unless a new IPv6 destination
+    /* the checksum of UDP, TCP or, over IPv6, ICMPv6 is updated too, unless a new destination
      * leaves the final one the same or unknown */
     ETHERPARSE_REACH_UPPER = 1,
     /* the payload is a later fragment: no checksum in it is updated, though that of TCP can be

@@ -29,6 +29,7 @@ use c_answers::error::{Error, Rest};
 use c_answers::filter_refusal::FilterRefusal;
 use c_answers::frame::Frame;
 use c_answers::packet_layers::{Packet, PacketIp, PacketLink, PacketTransport, Part, VlanTag};
+use c_answers::rewriting::{ChecksumAnswer, ReachAnswer};
 use defrag_buf::DefragBuf;
 use defrag_memory::{DefragBufState, DefragPoolState, DefragSlot};
 use defrag_pool::DefragPool;
@@ -69,12 +70,15 @@ const _: () = prove!(size_of::<PacketLink>() == 56 && size_of::<PacketIp>() == 7
 
 const _: () = prove!(size_of::<PacketTransport>() == 48 && size_of::<Packet>() == 224);
 
-const _: () = prove!(size_of::<Frame>() == 24);
+const _: () = prove!(size_of::<Frame>() == 24 && size_of::<&[u8]>() == 16);
 
 // Those of `include/etherparse_filter.h`, and the alignment of a filter.
 const _: () = prove!(size_of::<Filter>() == 6176 && align_of::<Filter>() == 16);
 
 const _: () = prove!(size_of::<FilterRefusal>() == 16);
+
+// Those of `include/etherparse_rewriting.h`.
+const _: () = prove!(size_of::<ChecksumAnswer>() == 8 && size_of::<ReachAnswer>() == 8);
 
 // Those of `include/etherparse_reassembly.h`. In the states there is room for the library's values.
 const _: () = prove!(size_of::<DefragError>() == 16 && size_of::<DefragWritten>() == 24);

@@ -2,8 +2,9 @@
 
 ghost use Rattle.std.specs.Prelude.{◌≡◌, ◌≢◌, ◌<◌, ◌≤◌, ◌⊎◌};
 ghost use Rattle.packet_rewriting.specs.Fields.{ChangesPort, HasOtherDscp, HasOtherEcn};
-ghost use Rattle.packet_rewriting.specs.Fields.{ReaddressesIpv4, RefusesAddress, RefusesMark};
-ghost use Rattle.packet_rewriting.specs.Fields.{HasOtherDestination, HasOtherSource, RefusesPort};
+ghost use Rattle.packet_rewriting.specs.Fields.{HasOtherDestinationIpv4, HasOtherDestinationIpv6};
+ghost use Rattle.packet_rewriting.specs.Fields.{HasOtherSourceIpv4, HasOtherSourceIpv6};
+ghost use Rattle.packet_rewriting.specs.Fields.{RefusesAddress, RefusesMark, RefusesPort};
 ghost use Rattle.c_answers.specs.Rewriting.{IsOtherEcn, IsReach, IsRefused, rewrite_kind};
 
 use c_answers::rewriting::{OK, ReachAnswer, VALUE_TOO_BIG, kind_of_rewrite, number_of_reach};
@@ -17,7 +18,7 @@ use packet_rewriting::fields::{
 #[unsafe(no_mangle)]
 pub extern "C" fn etherparse_set_source_ipv4(packet: &mut [u8], source: &[u8; 4]) -> ReachAnswer
     ensures changed { result.error ≡ 0 →
-        IsReach (ReaddressesIpv4 12 source.now packet.old packet.new) result.reach }
+        IsReach (HasOtherSourceIpv4 source.now packet.old packet.new) result.reach }
     ensures refused { result.error ≢ 0 →
         IsRefused (RefusesAddress 4 packet.old) rewrite_kind result.error }
     ensures unchanged { result.error ≢ 0 → packet.new ≡ packet.old }
@@ -42,7 +43,7 @@ pub extern "C" fn etherparse_set_destination_ipv4(
     destination: &[u8; 4],
 ) -> ReachAnswer
     ensures changed { result.error ≡ 0 →
-        IsReach (ReaddressesIpv4 16 destination.now packet.old packet.new) result.reach }
+        IsReach (HasOtherDestinationIpv4 destination.now packet.old packet.new) result.reach }
     ensures refused { result.error ≢ 0 →
         IsRefused (RefusesAddress 4 packet.old) rewrite_kind result.error }
     ensures unchanged { result.error ≢ 0 → packet.new ≡ packet.old }
@@ -64,7 +65,7 @@ pub extern "C" fn etherparse_set_destination_ipv4(
 #[unsafe(no_mangle)]
 pub extern "C" fn etherparse_set_source_ipv6(packet: &mut [u8], source: &[u8; 16]) -> ReachAnswer
     ensures changed { result.error ≡ 0 →
-        IsReach (HasOtherSource source.now packet.old packet.new) result.reach }
+        IsReach (HasOtherSourceIpv6 source.now packet.old packet.new) result.reach }
     ensures refused { result.error ≢ 0 →
         IsRefused (RefusesAddress 6 packet.old) rewrite_kind result.error }
     ensures unchanged { result.error ≢ 0 → packet.new ≡ packet.old }
@@ -89,7 +90,7 @@ pub extern "C" fn etherparse_set_destination_ipv6(
     destination: &[u8; 16],
 ) -> ReachAnswer
     ensures changed { result.error ≡ 0 →
-        IsReach (HasOtherDestination destination.now packet.old packet.new) result.reach }
+        IsReach (HasOtherDestinationIpv6 destination.now packet.old packet.new) result.reach }
     ensures refused { result.error ≢ 0 →
         IsRefused (RefusesAddress 6 packet.old) rewrite_kind result.error }
     ensures unchanged { result.error ≢ 0 → packet.new ≡ packet.old }

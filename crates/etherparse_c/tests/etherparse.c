@@ -299,7 +299,11 @@ static void texts(void)
     static const char by_payload_length[] =
         "IPv6 Extension Header Error: Not enough data to decode 'IPv6 extension header'. 40 byte(s) would be required, but only "
         "39 byte(s) are available based on the length calculated from the IPv6 header 'payload length' field.";
-    char text[256];
+    static const char longest[] =
+        "IPv6 Extension Header Error: Not enough data to decode 'IPv6 extension header'. 18446744073709551615 byte(s) would be "
+        "required, but only 18446744073709551614 byte(s) are available based on the length calculated from the IPv6 header "
+        "'payload length' field ('IPv6 extension header' starts at overall parsed byte 18446744073709551615).";
+    char text[ETHERPARSE_ERROR_TEXT_SIZE];
     struct etherparse_error error = error_of(ETHERPARSE_LEN, ETHERPARSE_FROM_SLICE, ETHERPARSE_IPV6_HEADER);
     memset(text, 7, sizeof text);
     EXPECT(etherparse_error_text(&error, text, sizeof text), sizeof too_short - 1);
@@ -313,6 +317,13 @@ static void texts(void)
     error = error_of(ETHERPARSE_UNEXPECTED_VERSION, 4, ETHERPARSE_IPV6_HEADER);
     EXPECT(etherparse_error_text(&error, text, sizeof text), sizeof version - 1);
     EXPECT_BYTES(text, version, sizeof version);
+    error = error_of(ETHERPARSE_LEN, ETHERPARSE_FROM_IPV6_PAYLOAD_LENGTH, ETHERPARSE_IPV6_EXT_HEADER);
+    error.required_len = SIZE_MAX;
+    error.len = SIZE_MAX - 1;
+    error.layer_start_offset = SIZE_MAX;
+    EXPECT(sizeof longest, ETHERPARSE_ERROR_TEXT_SIZE);
+    EXPECT(etherparse_error_text(&error, text, sizeof text), sizeof longest - 1);
+    EXPECT_BYTES(text, longest, sizeof longest);
 
     /* Into a buffer that is too small, into none, and for a kind or a source that does not exist. */
     error = error_of(ETHERPARSE_UNEXPECTED_VERSION, 5, ETHERPARSE_IPV4_HEADER);

@@ -1,4 +1,4 @@
 mod ExtensionHeaders
-mod IpOptions
+pub mod IpOptions
 mod Ipv6Extensions
 mod OptionLists

@@ -213,6 +213,24 @@ fn ieee_802_11_carries_packets(rt: HostRuntime) {
 }
 
 #[test]
+fn bridged_frames_carry_packets(rt: HostRuntime) {
+    // Ethernet with a sender whose address ends as an EtherType, after LLC with two bytes of padding.
+    let ethernet = [2, 0, 0, 0, 0, 3, 2, 0, 0, 0, 8, 0, 8, 0];
+    for number in [1, 7] {
+        let padded = [0xaa, 0xaa, 3, 0, 0x80, 0xc2, 0, number, 0, 0];
+        let relayed = [0x18, 0x41, 3, 0, 0x80, 0, 0x80, 0xc2, 0, number];
+        let are_found = [
+            carries_datagram(&rt, Framing::Ieee80211, &[&ADDRESSES, &padded, &ethernet]),
+            carries_datagram(&rt, Framing::FrameRelay, &[&relayed, &ethernet]),
+        ];
+        assert_equal(&rt, (number, are_found), (number, [true; 2]));
+    }
+    // IP after LLC alone.
+    let is_found = carries_datagram(&rt, Framing::Ieee80211, &[&ADDRESSES, &[6, 6, 3]]);
+    assert_equal(&rt, is_found, true);
+}
+
+#[test]
 fn padding_is_skipped(rt: HostRuntime) {
     // Radiotap whose Flags say that there is padding: alone, after TSFT, and after two words more.
     let cases = [

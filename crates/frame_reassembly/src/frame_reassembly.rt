@@ -97,7 +97,8 @@ impl<'a, 'b> FrameReassembly<'a, 'b> {
     /// a tag and the other none, are not put together; the kind of the tag does not count. If the
     /// fragment completes it, `out` gets the completed frame: what stands before the packet, and the
     /// whole packet; the datagram leaves its slot, and the length of that frame is returned. A
-    /// fragment of it that comes again then begins another datagram.
+    /// fragment of it that comes again then begins another datagram, unless the lent slots had its
+    /// id twice.
     /// Otherwise, and for all other frames, `None`. `out` has to have the length of `frame` and
     /// [`FrameReassembly::MAX_PACKET_LEN`] bytes more.
     ///

@@ -147,7 +147,7 @@ pub fn command<'a>(alloc: Global) -> Result<Command<'a>, AllocError>
         flag(
             alloc,
             "count",
-            "Print how many packets match, and nothing else"
+            "Print how many packets match, and no other line of output"
         ),
         flag(
             alloc,

@@ -4,7 +4,8 @@ ghost use Rattle.ipcap.specs.declared.input.TheConstants.{ROOM};
 ghost use Rattle.std.specs.Prelude.{◌<◌, ◌≤◌, ◌^◌};
 
 use crate::failure::Failure;
-use crate::streams::Source;
+use crate::output::Output;
+use crate::streams::{Sink, Source};
 
 /// The room for a block.
 pub const ROOM: usize = 327_680;
@@ -25,7 +26,7 @@ impl<R: Source> Input<R> {
     ghost use Rattle.std.specs.Prelude.{◌≡◌, [], IfErr, IfOk, IsFalse, IsTrue, OnErr, OnOk};
     ghost use Rattle.std.specs.Prelude.{drop, length, take};
     ghost use Rattle.std.specs.Io.KnownBytes.{IsAtEnd};
-    ghost use Rattle.ipcap.specs.Streams.{CannotRead, NoReadFails, Takes, unread};
+    ghost use Rattle.ipcap.specs.Streams.{CannotRead, NoReadFails, Takes, pending, unread};
 
     /// Nothing is read yet.
     pub fn new(source: R) -> Input<R>
@@ -61,9 +62,11 @@ impl<R: Source> Input<R> {
         self.len = end - len;
     }
 
-    /// Reads once, as much as there is room for; `false` if the input is at its end.
-    pub fn fill(&mut self) -> Result<bool, Failure>
+    /// Reads once, as much as there is room for; `false` if the input is at its end. The read can
+    /// wait for more, so the sink must have got all bytes of the output before it.
+    pub fn fill<W: Sink>(&mut self, _output: &Output<W>) -> Result<bool, Failure>
         requires room { length (unread self.old) < ROOM }
+        requires written { pending _output.now ≡ [] }
         ensures takes { Takes R.remaining self.old self.new [] }
         ensures more { IfOk result (λ more. IsTrue more → self.old.count < self.new.count) }
         ensures end { IfOk result (λ more. IsFalse more → IsAtEnd (R.remaining self.new.source)) }

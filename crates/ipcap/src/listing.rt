@@ -84,7 +84,8 @@ fn skip<R: Source, W: Sink>(
         if left == 0 {
             return Ok((len, last));
         }
-        if !input.fill()? {
+        output.hand_over()?;
+        if !input.fill(output)? {
             return Ok((len - left, last));
         }
     }
@@ -466,7 +467,7 @@ impl Request {
             Stop::Empty => None,
         };
         output.hand_over()?;
-        if input.fill()? {
+        if input.fill(output)? {
             Ok(Turn::GoesOn)
         } else {
             Ok(Turn::Ends(end))

@@ -55,7 +55,7 @@ pub fn run<R: Source, W: Sink, E: Sink>(
         request.now memory.entry e input.old input.new output.old output.new errors.old errors.new) }
     ensures unfailed { OnOk result (NoReadFails R.has_failed input.old input.new) }
 {
-    fill_to_front(input)?;
+    fill_to_front(input, output)?;
     let front = input.unread();
     let capture = match Capture::from_slice(front) {
         Ok((capture, _)) => capture,
@@ -105,7 +105,11 @@ fn header_len(capture: &Capture) -> usize
 }
 
 // Reads until the front of a capture can be told, or the input is at its end.
-fn fill_to_front<R: Source>(input: &mut Input<R>) -> Result<(), Failure>
+fn fill_to_front<R: Source, W: Sink>(
+    input: &mut Input<R>,
+    output: &Output<W>,
+) -> Result<(), Failure>
+    requires written { pending output.now ≡ [] }
     ensures takes { Takes R.remaining input.old input.new [] }
     ensures enough { OnOk result ((¬ LacksFront (unread input.new))
         ⊎ IsAtEnd (R.remaining input.new.source)) }
@@ -114,7 +118,7 @@ fn fill_to_front<R: Source>(input: &mut Input<R>) -> Result<(), Failure>
     ensures unfailed { OnOk result (NoReadFails R.has_failed input.old input.new) }
 {
     'reads: while lacks_front(input.unread()) {
-        if !input.fill()? {
+        if !input.fill(output)? {
             return Ok(());
         }
     }

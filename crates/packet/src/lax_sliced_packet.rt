@@ -172,7 +172,7 @@ impl<'a> LaxSlicedPacket<'a> {
     }
 
     /// The verdict on the checksum of the IP packet's payload; `Incomplete` if the packet is not
-    /// whole; `None` if `net` is `None`: there is no IP packet, or no whole header of one.
+    /// whole; `None` if `net` is `None`.
     ///
     /// # Example
     ///

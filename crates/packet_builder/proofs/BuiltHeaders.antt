@@ -19,14 +19,14 @@ same_ether_type (ip.Ipv6 given) (ip.Ipv4 made) protocol len is = elim is [ ]
 -- and its addresses
 pub same_udp_checksum : (given made : IpHeader) (protocol len : ℕ) → IsIpBefore given protocol len made → (header : UdpHeader) (payload : List ℕ) (checksum : ℕ)
     → IsUdpChecksumOver made header payload checksum → IsUdpChecksumOver given header payload checksum
-same_udp_checksum (ip.Ipv4 given) (ip.Ipv4 made) protocol len is header payload checksum over = rw (ap (λ h. h.source) is.fields, ap (λ h. h.destination) is.fields) at over
+same_udp_checksum (ip.Ipv4 given) (ip.Ipv4 made) protocol len is header payload checksum over = rw (ap (λ h. h.source) is.fields, ap (λ h. h.destination) is.fields, ap (λ h. h.options) is.fields) at over
 same_udp_checksum (ip.Ipv6 given) (ip.Ipv6 made) protocol len is header payload checksum over = rw (ap (λ h. h.source) is, ap (λ h. h.destination) is) at over
 same_udp_checksum (ip.Ipv4 given) (ip.Ipv6 made) protocol len is header payload checksum over = elim is [ ]
 same_udp_checksum (ip.Ipv6 given) (ip.Ipv4 made) protocol len is header payload checksum over = elim is [ ]
 
 pub same_tcp_checksum : (given made : IpHeader) (protocol len : ℕ) → IsIpBefore given protocol len made → (header : TcpHeader) (payload : List ℕ) (checksum : ℕ)
     → IsTcpChecksumOver made header payload checksum → IsTcpChecksumOver given header payload checksum
-same_tcp_checksum (ip.Ipv4 given) (ip.Ipv4 made) protocol len is header payload checksum over = rw (ap (λ h. h.source) is.fields, ap (λ h. h.destination) is.fields) at over
+same_tcp_checksum (ip.Ipv4 given) (ip.Ipv4 made) protocol len is header payload checksum over = rw (ap (λ h. h.source) is.fields, ap (λ h. h.destination) is.fields, ap (λ h. h.options) is.fields) at over
 same_tcp_checksum (ip.Ipv6 given) (ip.Ipv6 made) protocol len is header payload checksum over = rw (ap (λ h. h.source) is, ap (λ h. h.destination) is) at over
 same_tcp_checksum (ip.Ipv4 given) (ip.Ipv6 made) protocol len is header payload checksum over = elim is [ ]
 same_tcp_checksum (ip.Ipv6 given) (ip.Ipv4 made) protocol len is header payload checksum over = elim is [ ]

@@ -66,7 +66,8 @@ use Rattle.packet_parts.proofs.IpPackets.{ipv4_bytes-told, ipv6_bytes-short}
 use Rattle.packet_parts.proofs.IpParts.{packet_len_4, packet_len_6}
 use Rattle.packet_parts.specs.Checksum.{Covers, IsVerdict, IsVerdictOver, IsWithoutChecksum, ipv4_pieces, ipv6_pseudo_header, udp_checksum, udp_length}
 use Rattle.packet_parts.specs.Extensions.{at_front}
-use Rattle.packet_parts.specs.FinalDestination.{arrives}
+use Rattle.packet_parts.proofs.FinalDestinations.{goes_somewhere_ipv4}
+use Rattle.packet_parts.specs.FinalDestination.{GoesToIpv4, arrives}
 use Rattle.packet_parts.specs.IpSlice.{HasIpParts, IpHeaderParts, IsWhole, header_len_of, header_parts, ip_parts}
 use Rattle.packet_parts.specs.declared.checksum.Verdict.TheVariants.{Right}
 use Rattle.packet_parts.specs.declared.ip_slice.IpHeaderSlice.{IpHeaderSlice}
@@ -448,9 +449,9 @@ counted_4 given made protocol len bytes before is =
 counted_6 : (made : Ipv6Header) (bytes : List ℕ) → IsIpv6Layout made bytes → made.payload_length < 2 ^ 16
 counted_6 made bytes is = grind (arith, common_steps, is.are_bytes 4, is.are_bytes 5)
 
--- a segment sums to all ones with the pseudo-header of the addresses of an IP header
+-- a segment sums to all ones with the pseudo-header between the source of an IP header and the final destination
 abbrev SumsRight : ℕ → List ℕ → IpHeader → Type 0
-SumsRight protocol upper (ip.Ipv4 h) = ones_complement_sum (ipv4_pieces h.source h.destination protocol upper) ≡ 65535
+SumsRight protocol upper (ip.Ipv4 h) = (final : List ℕ) × GoesToIpv4 h.destination h.options final × (ones_complement_sum (ipv4_pieces h.source final protocol upper) ≡ 65535)
 SumsRight protocol upper (ip.Ipv6 h) = ones_complement_sum (ipv6_pseudo_header h.source h.destination protocol (length upper) ∷ upper ∷ []) ≡ 65535
 
 -- the number of ICMP over an IP header
@@ -468,15 +469,20 @@ covered_is_no_extension protocol upper (inr (inr (is, _, _))) skippable = omega 
 found_right : (given made : IpHeader) (protocol : ℕ) (ip_bytes upper : List ℕ) (is : IsIp made ip_bytes) → IsIpBefore given protocol (length upper) made
     → Covers (icmp_over given) protocol upper upper → ¬ IsWithoutChecksum protocol upper → SumsRight protocol upper given
     → IsVerdictOver (header_of made ip_bytes is) [] protocol upper Right
-found_right (ip.Ipv4 given) (ip.Ipv4 made) protocol ip_bytes upper is before covers there sums =
+found_right (ip.Ipv4 given) (ip.Ipv4 made) protocol ip_bytes upper is before covers there (final, goes, sums) =
     let source = is.source ∙ ap (λ h. h.source) before.fields in
-    let destination = is.destination ∙ ap (λ h. h.destination) before.fields in (
-      upper,
-      record { covers = covers; there = there },
-      record {
-        fits = λ _. counted_4 given made protocol (length upper) ip_bytes before is;
-        sum = rw (source, destination) sums;
-      },
+    let destination = is.destination ∙ ap (λ h. h.destination) before.fields in
+    let options = is.options ∙ ap (λ h. h.options) before.fields in (
+      final,
+      rw (destination, options) goes,
+      (
+        upper,
+        record { covers = covers; there = there },
+        record {
+          fits = λ _. counted_4 given made protocol (length upper) ip_bytes before is;
+          sum = rw source sums;
+        },
+      ),
     )
 found_right (ip.Ipv6 given) (ip.Ipv6 made) protocol ip_bytes upper is before covers there sums =
     let source = is.source ∙ ap (λ h. h.source) before in
@@ -499,12 +505,12 @@ found_right (ip.Ipv6 given) (ip.Ipv4 made) protocol ip_bytes upper is before cov
 
 udp_sums : (given : IpHeader) (udp : UdpHeader) (bytes payload : List ℕ) → IsUdpLayout udp bytes → length (bytes ++ payload) ≡ udp.length
     → IsUdpChecksumOver given udp payload udp.checksum → SumsRight 17 (bytes ++ payload) given
-udp_sums (ip.Ipv4 given) udp bytes payload l len is = rw len (is.right bytes l)
+udp_sums (ip.Ipv4 given) udp bytes payload l len (final, goes, is) = (final, goes, rw len (is.right bytes l))
 udp_sums (ip.Ipv6 given) udp bytes payload l len is = rw len (is.right bytes l)
 
 udp_there : (given : IpHeader) (udp : UdpHeader) (bytes payload : List ℕ) → IsUdpLayout udp bytes → udp.length ≡ 8 + length payload
     → IsUdpChecksumOver given udp payload udp.checksum → ¬ IsWithoutChecksum 17 (bytes ++ payload)
-udp_there (ip.Ipv4 given) udp bytes payload l counts is = has_checksum udp bytes payload l counts _ is
+udp_there (ip.Ipv4 given) udp bytes payload l counts (final, goes, is) = has_checksum udp bytes payload l counts _ is
 udp_there (ip.Ipv6 given) udp bytes payload l counts is = has_checksum udp bytes payload l counts _ is
 
 no_extension : (number : ℕ) → (number ≡ 17) ⊎ (number ≡ 6) ⊎ (number ≡ 1) ⊎ (number ≡ 58) → ¬ IsSkippable number
@@ -543,7 +549,7 @@ tcp_view tcp bytes l =
 
 tcp_sums : (given : IpHeader) (tcp : TcpHeader) (bytes payload : List ℕ) → IsTcpLayoutWith tcp 0 bytes → length (bytes ++ payload) ≡ tcp_header_len tcp + length payload
     → IsTcpChecksumOver given tcp payload tcp.checksum → SumsRight 6 (bytes ++ payload) given
-tcp_sums (ip.Ipv4 given) tcp bytes payload l len is = rw len (is.right bytes l)
+tcp_sums (ip.Ipv4 given) tcp bytes payload l len (final, goes, is) = (final, goes, rw len (is.right bytes l))
 tcp_sums (ip.Ipv6 given) tcp bytes payload l len is = rw len (is.right bytes l)
 
 pub tcp_read : (headers : Headers) (header : TcpHeader) (payload frame : List ℕ) → IsTcpPacket headers header payload frame → IsNoFragment headers.ip → TagsAreLinked headers
@@ -593,7 +599,8 @@ view_over_6 (ip.Ipv6 given) (ip.Ipv4 made) protocol n bytes is before over = eli
 view_over_6 (ip.Ipv4 given) made protocol n bytes is before over = elim over [ ]
 
 icmpv4_sums : (given : IpHeader) (upper : List ℕ) → IsIpv4 given → IsMessageRight [] upper → SumsRight 1 upper given
-icmpv4_sums (ip.Ipv4 given) upper over right = right
+icmpv4_sums (ip.Ipv4 given) upper over right =
+    let goes = goes_somewhere_ipv4 given.destination given.options in (goes.0, goes.1, right)
 icmpv4_sums (ip.Ipv6 given) upper over right = elim over [ ]
 
 icmpv4_covers : (given : IpHeader) (upper : List ℕ) → IsIpv4 given → 4 ≤ length upper → Covers (icmp_over given) 1 upper upper

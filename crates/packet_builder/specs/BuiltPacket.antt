@@ -28,6 +28,7 @@ use Rattle.etherparse_transport.specs.UdpChecksum.{IsUdpChecksumIpv4, IsUdpCheck
 use Rattle.etherparse_transport.specs.UdpChecksum.{udp_header_for}
 use Rattle.etherparse_transport.specs.declared.tcp_header.TcpHeader.{TcpHeader}
 use Rattle.etherparse_transport.specs.declared.udp.UdpHeader.{UdpHeader}
+use Rattle.packet_parts.specs.FinalDestination.{GoesToIpv4}
 use Rattle.packet_builder.specs.declared.arp_step.ArpStep.{ArpStep}
 use Rattle.packet_builder.specs.declared.build_slice_write_error.BuildSliceWriteError as error
 use Rattle.packet_builder.specs.declared.build_slice_write_error.BuildSliceWriteError.TheVariants
@@ -142,15 +143,22 @@ abbrev pub AreHeadersBefore : Headers → ℕ → ℕ → List ℕ → Type 0
 AreHeadersBefore headers protocol len bytes = (upper : List ℕ) → length upper ≡ len
     → HasHeaders headers protocol upper (bytes ++ upper)
 
--- the checksum of a UDP header and a payload between the addresses of an IP header
+-- the checksum of a UDP header and a payload between the source of an IP header and the final
+-- destination, which an IPv4 header with a source route has in its options
 abbrev pub IsUdpChecksumOver : IpHeader → UdpHeader → List ℕ → ℕ → Type 0
-IsUdpChecksumOver (ip.Ipv4 header) = IsUdpChecksumIpv4 header.source header.destination
-IsUdpChecksumOver (ip.Ipv6 header) = IsUdpChecksumIpv6 header.source header.destination
+IsUdpChecksumOver (ip.Ipv4 header) udp payload checksum = (final : List ℕ)
+    × GoesToIpv4 header.destination header.options final
+    × IsUdpChecksumIpv4 header.source final udp payload checksum
+IsUdpChecksumOver (ip.Ipv6 header) udp payload checksum =
+    IsUdpChecksumIpv6 header.source header.destination udp payload checksum
 
 -- the same of TCP
 abbrev pub IsTcpChecksumOver : IpHeader → TcpHeader → List ℕ → ℕ → Type 0
-IsTcpChecksumOver (ip.Ipv4 header) = IsTcpChecksumIpv4 header.source header.destination
-IsTcpChecksumOver (ip.Ipv6 header) = IsTcpChecksumIpv6 header.source header.destination
+IsTcpChecksumOver (ip.Ipv4 header) tcp payload checksum = (final : List ℕ)
+    × GoesToIpv4 header.destination header.options final
+    × IsTcpChecksumIpv4 header.source final tcp payload checksum
+IsTcpChecksumOver (ip.Ipv6 header) tcp payload checksum =
+    IsTcpChecksumIpv6 header.source header.destination tcp payload checksum
 
 -- a UDP header between these ports, over an IP header and before a payload: its length counts both,
 -- and its checksum is the one that it should have

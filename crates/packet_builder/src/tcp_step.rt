@@ -9,6 +9,7 @@ use crate::headers::{Headers, IpHeader};
 use crate::writing::put_upper;
 use etherparse::IpNumber;
 use etherparse_transport::{TcpHeader, TcpOptionElement, TcpOptionWriteError};
+use packet_parts::final_destination::final_destination_ipv4;
 
 /// A packet that is built, after its TCP header.
 #[derive(Clone, Debug, Drop)]
@@ -224,7 +225,10 @@ fn header_over(ip: &IpHeader, tcp: TcpHeader, payload: &[u8]) -> TcpHeader
 {
     let mut header = tcp;
     let checksum = match ip {
-        IpHeader::Ipv4(ip) => header.calc_checksum_ipv4(ip, payload).unwrap(),
+        IpHeader::Ipv4(ip) => {
+            let last = final_destination_ipv4(ip.destination, ip.options.as_slice());
+            header.calc_checksum_ipv4_raw(ip.source, last, payload).unwrap()
+        }
         IpHeader::Ipv6(ip) => header.calc_checksum_ipv6(ip, payload).unwrap(),
     };
     header.checksum = checksum;

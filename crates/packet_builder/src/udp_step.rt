@@ -8,6 +8,7 @@ use crate::headers::{Headers, IpHeader};
 use crate::writing::put_upper;
 use etherparse::IpNumber;
 use etherparse_transport::UdpHeader;
+use packet_parts::final_destination::final_destination_ipv4;
 
 /// A packet that is built, after its UDP header.
 #[derive(Clone, Debug, Drop)]
@@ -82,7 +83,10 @@ fn header_over(ip: &IpHeader, source_port: u16, destination_port: u16, payload: 
         checksum: 0,
     };
     let checksum = match ip {
-        IpHeader::Ipv4(ip) => header.calc_checksum_ipv4(ip, payload).unwrap(),
+        IpHeader::Ipv4(ip) => {
+            let last = final_destination_ipv4(ip.destination, ip.options.as_slice());
+            header.calc_checksum_ipv4_raw(ip.source, last, payload).unwrap()
+        }
         IpHeader::Ipv6(ip) => header.calc_checksum_ipv6(ip, payload).unwrap(),
     };
     header.checksum = checksum;

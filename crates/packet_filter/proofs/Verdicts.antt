@@ -4,7 +4,7 @@ use Rattle.packet.specs.SlicedPacket.{IsVerdictOn}
 use Rattle.packet.specs.declared.error.SliceError.{SliceError}
 use Rattle.packet.specs.declared.error.SliceError.TheVariants as error
 use Rattle.packet_parts.specs.Checksum.{Covers, IsVerdictIpv4, IsVerdictIpv6, IsVerdictOver, IsVerdictTo, IsWithoutChecksum, IsRightIpv4, IsRightIpv6}
-use Rattle.packet_parts.proofs.FinalDestinations.{goes_once}
+use Rattle.packet_parts.proofs.FinalDestinations.{goes_once_ipv6, goes_once_ipv4}
 use Rattle.packet_parts.specs.IpSlice.{destination_of, source_of}
 use Rattle.packet_parts.specs.declared.checksum.Absence.TheVariants as absence
 use Rattle.packet_parts.specs.declared.checksum.Verdict.{Verdict}
@@ -13,7 +13,7 @@ use Rattle.packet_parts.specs.declared.fragment.Fragment.{Fragment}
 use Rattle.packet_parts.specs.declared.ip_slice.IpHeaderSlice.{IpHeaderSlice}
 use Rattle.packet_parts.specs.declared.ip_slice.IpHeaderSlice.TheVariants as header
 use Rattle.packet_parts.specs.declared.ip_slice.IpSlice.{IpSlice}
-use Rattle.std.specs.Prelude.{MatchOption, slice_index}
+use Rattle.std.specs.Prelude.{MatchOption, drop, slice_index}
 
 covers_once : (icmp number : ℕ) (payload a b : List ℕ) → icmp ≢ 17 → icmp ≢ 6 → Covers icmp number payload a → Covers icmp number payload b → a ≡ b
 covers_once icmp number payload a b u t x y = grind arith
@@ -47,9 +47,11 @@ to_wrong source None number payload v w h = absurd w
 to_wrong source (Some destination) number payload v w h = ipv6_wrong source destination number payload v w h
 
 over_wrong : (h : IpHeaderSlice) (extensions : List ℕ) (number : ℕ) (payload : List ℕ) (v : Verdict) → IsVerdictOver h extensions number payload Wrong → IsVerdictOver h extensions number payload v → v ≡ Wrong
-over_wrong (header.Ipv4 view) extensions number payload v w h = ipv4_wrong _ _ number payload v w h
+over_wrong (header.Ipv4 view) extensions number payload v (a, goes, w) (b, other, h) =
+    let same = goes_once_ipv4 (destination_of (header.Ipv4 view)) (drop 20 view.slice.now) a b goes other in
+    ipv4_wrong (source_of (header.Ipv4 view)) a number payload v w (subst (λ d. IsVerdictIpv4 (source_of (header.Ipv4 view)) d number payload v) same h)
 over_wrong (header.Ipv6 view) extensions number payload v (a, goes, w) (b, other, h) =
-    let same = goes_once (destination_of (header.Ipv6 view)) (slice_index view.slice.now 6) extensions b a other goes in
+    let same = goes_once_ipv6 (destination_of (header.Ipv6 view)) (slice_index view.slice.now 6) extensions b a other goes in
     to_wrong (source_of (header.Ipv6 view)) a number payload v w (subst (λ d. IsVerdictTo (source_of (header.Ipv6 view)) d number payload v) same h)
 
 slice_wrong : (ip : IpSlice) (fragment : Option Fragment) (v : Verdict) → MatchOption fragment (IsVerdictOver ip.header ip.extensions.now ip.upper ip.payload.now Wrong) (λ f. Wrong ≡ Absent absence.Fragment) → MatchOption fragment (IsVerdictOver ip.header ip.extensions.now ip.upper ip.payload.now v) (λ f. v ≡ Absent absence.Fragment) → v ≡ Wrong

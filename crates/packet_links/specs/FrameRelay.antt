@@ -10,7 +10,7 @@ use Rattle.packet_links.specs.declared.header.Header.{Header}
 -- the NLPID at a place; after 80 comes SNAP (RFC 2427 section 4), after cf the protocol of PPP
 -- (RFC 1973 section 3)
 abbrev pub nlpid_header : ℕ → List ℕ → Header
-nlpid_header place frame = if has 0x80 place frame then snap_header (place + 1) frame
+nlpid_header place frame = if has 0x80 place frame then snap_header 0 (place + 1) frame
     else if has 0xcf place frame then protocol_header (place + 1) frame
     else record { len = place + 1; carried = carried.Nlpid (slice_index frame place) }
 

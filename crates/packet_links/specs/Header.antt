@@ -28,19 +28,23 @@ is_ether_type place frame = has 0 place frame && has 0 (place + 1) frame
     && (has 0 (place + 2) frame || has 0xf8 (place + 2) frame)
 
 -- a whole frame of Ethernet, with or without its check sequence: organization 00 80 c2, protocol
--- 00 01 or 00 07 (RFC 2427 section 4.2)
+-- 00 01 or 00 07 (RFC 2427 section 4.2, RFC 2684 section 5.2)
 abbrev pub is_bridged : ℕ → List ℕ → Bool
 is_bridged place frame = has 0 place frame && has 0x80 (place + 1) frame
     && has 0xc2 (place + 2) frame && has 0 (place + 3) frame
     && (has 0x01 (place + 4) frame || has 0x07 (place + 4) frame)
 
--- SNAP at a place: three bytes name an organization, two its protocol (IEEE 802 section 9.2.2). The
--- header of a bridged frame of Ethernet is a part of it, whose last two bytes are the EtherType.
-abbrev pub snap_header : ℕ → List ℕ → Header
-snap_header place frame = if is_ether_type place frame
+-- SNAP at a place: three bytes name an organization, two its protocol (IEEE 802 section 9.2.2).
+-- Before a bridged frame of Ethernet come so many bytes of padding. Its header is a part of SNAP,
+-- and the last two bytes of that are the EtherType.
+abbrev pub snap_header : ℕ → ℕ → List ℕ → Header
+snap_header padding place frame = if is_ether_type place frame
     then record { len = place + 5; carried = carried.EtherType (number_at (place + 3) frame) }
     else if is_bridged place frame
-    then record { len = place + 19; carried = carried.EtherType (number_at (place + 17) frame) }
+    then record {
+      len = place + 5 + padding + 14;
+      carried = carried.EtherType (number_at (place + 5 + padding + 12) frame);
+    }
     else record { len = place + 5; carried = carried.Snap }
 
 -- the control at a place has one byte, that of an unnumbered PDU: its bits 0 and 1 are set (IEEE
@@ -50,11 +54,14 @@ is_unnumbered place frame =
     nat_le (length frame) place || (is_set 0 place frame && is_set 1 place frame)
 
 -- LLC at a place: the addresses of the destination's and of the source's protocol, and one or two
--- bytes of control (IEEE 802.2 section 3.2). After aa aa 03 comes SNAP.
+-- bytes of control (IEEE 802.2 section 3.2). After aa aa 03 comes SNAP, in which a bridged frame has
+-- two bytes of padding (RFC 2684 section 5.2), and after 06 06 03 an IP packet (RFC 948).
 abbrev pub llc_header : ℕ → List ℕ → Header
 llc_header place frame =
     if has 0xaa place frame && has 0xaa (place + 1) frame && has 0x03 (place + 2) frame
-    then snap_header (place + 3) frame
+    then snap_header 2 (place + 3) frame
+    else if has 0x06 place frame && has 0x06 (place + 1) frame && has 0x03 (place + 2) frame
+    then record { len = place + 3; carried = carried.Ip }
     else record {
       len = place + 2 + (if is_unnumbered (place + 2) frame then 1 else 2);
       carried = carried.Llc (slice_index frame place);

@@ -85,7 +85,7 @@ fn nlpid_header(frame: &[u8], place: usize) -> Header
 {
     let nlpid = byte_at(frame, place);
     if nlpid == 0x80 {
-        return snap_header(frame, place + 1);
+        return snap_header(frame, place + 1, 0);
     }
     if nlpid == 0xcf {
         return protocol_header(frame, place + 1);

@@ -1,6 +1,6 @@
 //! A link header and what it says of the bytes after it.
 
-ghost use Rattle.std.specs.Prelude.{◌≡◌, ◌<◌, ◌^◌};
+ghost use Rattle.std.specs.Prelude.{◌≡◌, ◌<◌, ◌≤◌, ◌^◌};
 ghost use Rattle.packet_links.specs.Header.{is_bridged, is_ether_type, is_unnumbered, llc_header};
 ghost use Rattle.packet_links.specs.Header.{snap_header};
 
@@ -91,10 +91,11 @@ impl Carried {
     }
 }
 
-// SNAP at a place.
-pub(crate) fn snap_header(frame: &[u8], place: usize) -> Header
+// SNAP at a place, with so many bytes of padding before a bridged frame.
+pub(crate) fn snap_header(frame: &[u8], place: usize, padding: usize) -> Header
     requires fits { place < 2 ^ 31 }
-    ensures value { result ≡ snap_header place frame.now }
+    requires short { padding ≤ 2 }
+    ensures value { result ≡ snap_header padding place frame.now }
 {
     if is_ether_type(frame, place) {
         return Header {
@@ -103,9 +104,10 @@ pub(crate) fn snap_header(frame: &[u8], place: usize) -> Header
         };
     }
     if is_bridged(frame, place) {
+        let bridged = place + 5 + padding;
         return Header {
-            len: place + 19,
-            carried: Carried::EtherType(number_at(frame, place + 17)),
+            len: bridged + 14,
+            carried: Carried::EtherType(number_at(frame, bridged + 12)),
         };
     }
     Header {
@@ -149,7 +151,13 @@ pub(crate) fn llc_header(frame: &[u8], place: usize) -> Header
 {
     let dsap = byte_at(frame, place);
     if dsap == 0xaa && has(0xaa, place + 1, frame) && has(0x03, place + 2, frame) {
-        return snap_header(frame, place + 3);
+        return snap_header(frame, place + 3, 2);
+    }
+    if dsap == 0x06 && has(0x06, place + 1, frame) && has(0x03, place + 2, frame) {
+        return Header {
+            len: place + 3,
+            carried: Carried::Ip,
+        };
     }
     let control_len = if is_unnumbered(frame, place + 2) {
         1

@@ -81,7 +81,7 @@ fn present_len(words: &[u8]) -> usize
 // The header of LINKTYPE_IEEE802_11, after which padding can stand.
 pub(crate) fn ieee80211_header(is_padded: bool, mac: &[u8]) -> Header
     ensures value { result ≡ ieee80211_header is_padded mac.now }
-    ensures short { result.len ≤ 58 }
+    ensures short { result.len ≤ 60 }
 {
     let control = byte_at(mac, 0);
     let carried = match (control % 4, control / 4 % 4) {
@@ -97,7 +97,7 @@ pub(crate) fn ieee80211_header(is_padded: bool, mac: &[u8]) -> Header
 // The header of a data frame.
 fn data_header(is_padded: bool, mac: &[u8]) -> Header
     ensures value { result ≡ data_header is_padded mac.now }
-    ensures short { result.len ≤ 58 }
+    ensures short { result.len ≤ 60 }
 {
     if is_set(6, 0, mac) {
         return Header {

@@ -3,28 +3,34 @@ use Rattle.std.proofs.Common.{ℕ, Bool, true, false, take, slice_range, if◌th
 use Rattle.std.proofs.lemmas.Grind.{common_steps}
 use Rattle.std.proofs.lemmas.Result.{IfOk-at_ok}
 use Rattle.etherparse.specs.ExtensionHeaderChain.{required_len_of}
-use Rattle.packet_parts.specs.FinalDestination.{GoesTo, after_header, arrives, cmpr_e, first_in_list, is_incomplete, last_address, last_compressed, last_in_list, loses_track, only_address, others_len, passes, segments_left}
+use Rattle.std.proofs.Common.{[], ◌∷◌, ◌++◌, ◌∙◌, cond, option_map}
+use Rattle.std.specs.Option.{option_or}
+use Rattle.std.specs.Prelude.{find}
+use Rattle.etherparse_net.specs.Ipv4Options.{BeginsWithIpv4Options, IsOnlyIpv4Listing}
+use Rattle.etherparse_net.specs.declared.err.ipv4_option_error.Ipv4OptionError.{Ipv4OptionError}
+use Rattle.etherparse_net.proofs.IpOptions.{ipv4_options_listed}
+use Rattle.packet_parts.specs.FinalDestination.{GoesToIpv4, GoesToIpv6, HasFirstRoute, hides_addresses, is_source_route, has_addresses_left, after_route, after_header, arrives, cmpr_e, first_in_list, is_incomplete, last_address, last_compressed, last_in_list, loses_track, only_address, others_len, passes, segments_left}
 
-pub goes_once : (d : List ℕ) (n : ℕ) (s : List ℕ) (a b : Option (List ℕ)) → GoesTo d n s a → GoesTo d n s b → a ≡ b
-goes_once d n s a b (arrives _) (arrives _) = refl
-goes_once d n s a b (loses_track _ _ _) (loses_track _ _ _) = refl
-goes_once d n s a b (is_incomplete _ _) (is_incomplete _ _) = refl
-goes_once d n s a b (loses_track _ _ _) (is_incomplete _ _) = refl
-goes_once d n s a b (is_incomplete _ _) (loses_track _ _ _) = refl
-goes_once d n s a b (arrives other) (passes skippable _ _ _) = absurd (other skippable)
-goes_once d n s a b (arrives other) (loses_track skippable _ _) = absurd (other skippable)
-goes_once d n s a b (arrives other) (is_incomplete skippable _) = absurd (other skippable)
-goes_once d n s a b (passes skippable _ _ _) (arrives other) = absurd (other skippable)
-goes_once d n s a b (loses_track skippable _ _) (arrives other) = absurd (other skippable)
-goes_once d n s a b (is_incomplete skippable _) (arrives other) = absurd (other skippable)
-goes_once d n s a b (passes {next = x} _ _ e g) (passes {next = y} _ _ f h) =
+pub goes_once_ipv6 : (d : List ℕ) (n : ℕ) (s : List ℕ) (a b : Option (List ℕ)) → GoesToIpv6 d n s a → GoesToIpv6 d n s b → a ≡ b
+goes_once_ipv6 d n s a b (arrives _) (arrives _) = refl
+goes_once_ipv6 d n s a b (loses_track _ _ _) (loses_track _ _ _) = refl
+goes_once_ipv6 d n s a b (is_incomplete _ _) (is_incomplete _ _) = refl
+goes_once_ipv6 d n s a b (loses_track _ _ _) (is_incomplete _ _) = refl
+goes_once_ipv6 d n s a b (is_incomplete _ _) (loses_track _ _ _) = refl
+goes_once_ipv6 d n s a b (arrives other) (passes skippable _ _ _) = absurd (other skippable)
+goes_once_ipv6 d n s a b (arrives other) (loses_track skippable _ _) = absurd (other skippable)
+goes_once_ipv6 d n s a b (arrives other) (is_incomplete skippable _) = absurd (other skippable)
+goes_once_ipv6 d n s a b (passes skippable _ _ _) (arrives other) = absurd (other skippable)
+goes_once_ipv6 d n s a b (loses_track skippable _ _) (arrives other) = absurd (other skippable)
+goes_once_ipv6 d n s a b (is_incomplete skippable _) (arrives other) = absurd (other skippable)
+goes_once_ipv6 d n s a b (passes {next = x} _ _ e g) (passes {next = y} _ _ f h) =
     let k = required_len_of n s in
     let same : x ≡ y = cc in
-    goes_once y (slice_index s 0) (drop k s) a b (subst (λ z. GoesTo z (slice_index s 0) (drop k s) a) same g) h
-goes_once d n s a b (passes _ _ e g) (loses_track _ _ f) = cc
-goes_once d n s a b (loses_track _ _ e) (passes _ _ f h) = cc
-goes_once d n s a b (passes _ enough _ _) (is_incomplete _ short) = absurd (omega (arith, enough, short))
-goes_once d n s a b (is_incomplete _ short) (passes _ enough _ _) = absurd (omega (arith, enough, short))
+    goes_once_ipv6 y (slice_index s 0) (drop k s) a b (subst (λ z. GoesToIpv6 z (slice_index s 0) (drop k s) a) same g) h
+goes_once_ipv6 d n s a b (passes _ _ e g) (loses_track _ _ f) = cc
+goes_once_ipv6 d n s a b (loses_track _ _ e) (passes _ _ f h) = cc
+goes_once_ipv6 d n s a b (passes _ enough _ _) (is_incomplete _ short) = absurd (omega (arith, enough, short))
+goes_once_ipv6 d n s a b (is_incomplete _ short) (passes _ enough _ _) = absurd (omega (arith, enough, short))
 
 -- a header has at least 8 bytes
 pub at_least_8 : (n : ℕ) (s : List ℕ) → required_len_of n s ≤ length s → 8 ≤ required_len_of n s
@@ -69,9 +75,81 @@ last_is_16 d header len left = either_is_16 _ (last_in_list header) _ (λ _. lis
     (either_is_16 _ (last_compressed d header) _ (λ _. compressed_is_16 d header len) (either_is_16 _ (first_in_list header) None (λ _. first_is_16 header) none_is_16)))
 
 after_is_16 : (d : List ℕ) (n : ℕ) (header : List ℕ) → length d ≡ 16 → Is16 (after_header d n header)
-after_is_16 d n header len = either_is_16 _ (last_address d header) (Some d) (λ on. last_is_16 d header len (grind (arith, common_steps, on))) (λ next is. grind (arith, common_steps, is, len))
+after_is_16 d n header len = either_is_16 _ (last_address d header) _ (λ on. last_is_16 d header len (grind (arith, common_steps, on)))
+    (either_is_16 (hides_addresses n header) None (Some d) (λ _. none_is_16) (λ next is. grind (arith, common_steps, is, len)))
 
-pub goes_len : (d : List ℕ) (n : ℕ) (s f : List ℕ) → length d ≡ 16 → GoesTo d n s (Some f) → length f ≡ 16
-goes_len d n s f len (arrives _) = len
-goes_len d n s f len (passes {next = x} _ _ e g) =
-    let k = required_len_of n s in goes_len x (slice_index s 0) (drop k s) f (after_is_16 d n (take k s) len x e) g
+pub goes_len_ipv6 : (d : List ℕ) (n : ℕ) (s f : List ℕ) → length d ≡ 16 → GoesToIpv6 d n s (Some f) → length f ≡ 16
+goes_len_ipv6 d n s f len (arrives _) = len
+goes_len_ipv6 d n s f len (passes {next = x} _ _ e g) =
+    let k = required_len_of n s in goes_len_ipv6 x (slice_index s 0) (drop k s) f (after_is_16 d n (take k s) len x e) g
+
+-- ---- IPv4
+
+-- options up to a place, with the first source route among them
+pub record ReadTo (s : List ℕ) (at : ℕ) (route : Option (List ℕ)) : Type 0 where
+  pub options : List (List ℕ)
+  pub begins : BeginsWithIpv4Options s options (drop at s)
+  pub found : find is_source_route options ≡ route
+
+-- the first source route, after one more option
+find_more : (options : List (List ℕ)) (option : List ℕ)
+    → find is_source_route (options ++ option ∷ []) ≡ option_or (find is_source_route options) (cond (is_source_route option) (Some option) None)
+find_more [] option = refl
+find_more (x ∷ options) option = by (is_source_route x) (find_more options option)
+  where
+    by : (b : Bool) → find is_source_route (options ++ option ∷ []) ≡ option_or (find is_source_route options) (cond (is_source_route option) (Some option) None)
+        → cond b (Some x) (find is_source_route (options ++ option ∷ [])) ≡ option_or (cond b (Some x) (find is_source_route options)) (cond (is_source_route option) (Some option) None)
+    by true e = refl
+    by false e = e
+
+pub read_on : (s t option : List ℕ) (at next : ℕ) (route : Option (List ℕ)) → s ≡ t → ReadTo t at route
+    → ((options : List (List ℕ)) → BeginsWithIpv4Options s options (drop at s) → BeginsWithIpv4Options s (options ++ option ∷ []) (drop next s))
+    → ReadTo t next (option_or route (cond (is_source_route option) (Some option) None))
+read_on s t option at next route same read on = record {
+  options = read.options ++ option ∷ [];
+  begins = (rw same at on) read.options read.begins;
+  found = find_more read.options option ∙ ap (λ r. option_or r (cond (is_source_route option) (Some option) None)) read.found;
+}
+
+pub or_some : {A : Type 0} (f : A → List ℕ) (first : Option A) (x : A) → option_or (option_map f first) (Some (f x)) ≡ option_map f (option_or first (Some x))
+or_some f None x = refl
+or_some f (Some y) x = refl
+
+pub or_none : (route : Option (List ℕ)) → option_or route None ≡ route
+or_none None = refl
+or_none (Some y) = refl
+
+-- what is listed in one way has one first source route
+routes_once : (s : List ℕ) (a b : Option (List ℕ)) → HasFirstRoute s a → HasFirstRoute s b → b ≡ a
+routes_once s a b x y = y.first ∙ ap (find is_source_route) (x.lists.only y.options y.end y.lists.lists).0 ∙ sym x.first
+
+pub first_of : {s : List ℕ} {options : List (List ℕ)} {end : Result (List ℕ) Ipv4OptionError} {route : Option (List ℕ)} → IsOnlyIpv4Listing s options end
+    → find is_source_route options ≡ route → HasFirstRoute s route × ((other : Option (List ℕ)) → HasFirstRoute s other → other ≡ route)
+first_of {s = s} {options = options} {end = end} {route = route} listing found =
+    let has : HasFirstRoute s route = record { options = options; end = end; lists = listing; first = sym found } in
+    (has, λ other. routes_once s route other has)
+
+pub goes_once_ipv4 : (d s a b : List ℕ) → GoesToIpv4 d s a → GoesToIpv4 d s b → b ≡ a
+goes_once_ipv4 d s a b g h = h.is_final ∙ ap (after_route d) (routes_once s g.route h.route g.has_route h.has_route) ∙ sym g.is_final
+
+-- it is an address of 4 bytes, as the destination is
+last_of_route : (d route : List ℕ) (left : Bool) → has_addresses_left route ≡ left → length d ≡ 4
+    → length (if left then slice_range route (length route - 4) (length route) else d) ≡ 4
+last_of_route d route false is len = len
+last_of_route d route true is len =
+    let enough : 4 ≤ length route = grind (arith, common_steps, is) in
+    omega (arith, enough, length-take (length route - (length route - 4)) (drop (length route - 4) route), length-drop (length route - 4) route)
+
+after_len : (d : List ℕ) (route : Option (List ℕ)) → length d ≡ 4 → length (after_route d route) ≡ 4
+after_len d None len = len
+after_len d (Some route) len = last_of_route d route (has_addresses_left route) refl len
+
+pub goes_len_ipv4 : (d s f : List ℕ) → length d ≡ 4 → GoesToIpv4 d s f → length f ≡ 4
+goes_len_ipv4 d s f len goes = ap length goes.is_final ∙ after_len d goes.route len
+
+-- every packet has one
+pub goes_somewhere_ipv4 : (d s : List ℕ) → (f : List ℕ) × GoesToIpv4 d s f
+goes_somewhere_ipv4 d s =
+    let listed = ipv4_options_listed s in
+    let route = find is_source_route listed.0 in
+    (after_route d route, record { route = route; has_route = record { options = listed.0; end = listed.1; lists = listed.2; first = refl }; is_final = refl })

@@ -1,10 +1,10 @@
 -- What a receiver finds of the checksum of UDP, TCP, ICMP or ICMPv6.
 use Rattle.std.specs.Prelude.{ℕ, ◌≡◌, ◌≢◌, ◌==◌, ◌<◌, ◌≤◌, ◌^◌, ◌⊎◌, List, [], ◌∷◌, ◌++◌}
-use Rattle.std.specs.Prelude.{MatchOption, Option, Some, None, codes, if◌then◌else◌, length}
+use Rattle.std.specs.Prelude.{MatchOption, Option, Some, None, codes, drop, if◌then◌else◌, length}
 use Rattle.std.specs.Prelude.{slice_index, slice_range, take}
 use Rattle.std.specs.Int.{from_be_bytes, to_be_bytes, w16, w32}
 use Rattle.etherparse.specs.WordSums.{ones_complement_sum}
-use Rattle.packet_parts.specs.FinalDestination.{GoesTo}
+use Rattle.packet_parts.specs.FinalDestination.{GoesToIpv4, GoesToIpv6}
 use Rattle.packet_parts.specs.IpSlice.{destination_of, source_of}
 use Rattle.packet_parts.specs.declared.checksum.Absence.{Absence}
 use Rattle.packet_parts.specs.declared.checksum.Absence.TheVariants as absence
@@ -107,7 +107,7 @@ IsVerdictIpv6 source destination number payload Wrong = (covered : List ℕ)
     × Covers 58 number payload covered × ¬ IsRightIpv6 source destination number covered
 IsVerdictIpv6 source destination number payload (Absent reason) = IsAbsent 58 number payload reason
 
--- the same, for a final destination that can be unknown: then none is told right or wrong
+-- the same, for a final destination that can be unknown: then no checksum is right or wrong
 abbrev pub IsVerdictTo : List ℕ → Option (List ℕ) → ℕ → List ℕ → Verdict → Type 0
 IsVerdictTo source (Some destination) number payload verdict =
     IsVerdictIpv6 source destination number payload verdict
@@ -118,13 +118,13 @@ IsVerdictTo source None number payload Right = ⊥
 IsVerdictTo source None number payload Wrong = ⊥
 
 -- The verdict on the payload of a packet that is no fragment and has this header and these
--- extension headers: with the addresses of an IPv4 header, or with the source and the final
--- destination of an IPv6 packet.
+-- extension headers: between the source of the header and the final destination of the packet.
 abbrev pub IsVerdictOver : IpHeaderSlice → List ℕ → ℕ → List ℕ → Verdict → Type 0
-IsVerdictOver (header.Ipv4 view) extensions =
-    IsVerdictIpv4 (source_of (header.Ipv4 view)) (destination_of (header.Ipv4 view))
+IsVerdictOver (header.Ipv4 view) extensions = λ protocol payload verdict. (final : List ℕ)
+    × GoesToIpv4 (destination_of (header.Ipv4 view)) (drop 20 view.slice.now) final
+    × IsVerdictIpv4 (source_of (header.Ipv4 view)) final protocol payload verdict
 IsVerdictOver (header.Ipv6 view) extensions = λ number payload verdict. (final : Option (List ℕ))
-    × GoesTo (destination_of (header.Ipv6 view)) (slice_index view.slice.now 6) extensions final
+    × GoesToIpv6 (destination_of (header.Ipv6 view)) (slice_index view.slice.now 6) extensions final
     × IsVerdictTo (source_of (header.Ipv6 view)) final number payload verdict
 
 -- the verdict on the payload of a packet in these parts, which may be a fragment

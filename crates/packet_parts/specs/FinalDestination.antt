@@ -1,10 +1,53 @@
--- The final destination of an IPv6 packet, which its checksums cover (RFC 8200 section 8.1). While
--- a routing header has segments left, the IPv6 header holds the address of the next stop instead.
-use Rattle.std.specs.Prelude.{ℕ, ◌≡◌, ◌+◌, ◌-◌, ◌*◌, ◌/◌, ◌%◌, ◌<◌, ◌≤◌, ◌==◌, ◌&&◌, not}
-use Rattle.std.specs.Prelude.{List, ◌++◌, drop, length, slice_index, slice_range, take}
-use Rattle.std.specs.Prelude.{Option, Some, None, if◌then◌else◌, nat_le}
+-- The final destination of a packet, which its checksums cover. A source route of IPv4 and a routing
+-- header of IPv6 send a packet over several stops. Until the last one the header has the address of
+-- the next stop for its destination.
+use Rattle.std.specs.Prelude.{ℕ, ◌≡◌, ◌+◌, ◌-◌, ◌*◌, ◌/◌, ◌%◌, ◌<◌, ◌≤◌, ◌==◌, ◌&&◌, ◌||◌, not}
+use Rattle.std.specs.Prelude.{Bool, List, ◌++◌, drop, find, length, slice_index, slice_range, take}
+use Rattle.std.specs.Prelude.{Option, Result, Some, None, if◌then◌else◌, nat_le}
 use Rattle.etherparse.specs.ExtensionHeaderChain.{required_len_of}
 use Rattle.etherparse.specs.ExtensionHeaders.{IsSkippable}
+use Rattle.etherparse_net.specs.Ipv4Options.{IsOnlyIpv4Listing}
+use Rattle.etherparse_net.specs.declared.err.ipv4_option_error.Ipv4OptionError.{Ipv4OptionError}
+
+-- ---- IPv4
+
+-- an option of IPv4 is a source route (RFC 791 section 3.1), a loose (131) or a strict one (137)
+abbrev pub is_source_route : List ℕ → Bool
+is_source_route option = (slice_index option 0 == 131) || (slice_index option 0 == 137)
+
+-- After the type and the length of a source route, byte 2 is a pointer, and then come addresses. The
+-- pointer is the place of the next one to be visited, counted from 1: 4, 8 and so on.
+abbrev pub pointer : List ℕ → ℕ
+pointer route = slice_index route 2
+
+-- Addresses are left: the pointer is the place of one of them. Otherwise all are visited, or the
+-- pointer or the length does not fit, and no node can send the packet on by this route.
+abbrev pub has_addresses_left : List ℕ → Bool
+has_addresses_left route = (length route % 4 == 3) && ((pointer route % 4 == 0)
+    && (nat_le 4 (pointer route) && nat_le (pointer route) (length route)))
+
+-- The first source route in the bytes of the options, as far as these are whole, or none. A packet has
+-- one at most.
+pub record HasFirstRoute (bytes : List ℕ) (route : Option (List ℕ)) : Type 0 where
+  pub options : List (List ℕ)
+  pub end : Result (List ℕ) Ipv4OptionError
+  pub lists : IsOnlyIpv4Listing bytes options end
+  pub first : route ≡ find is_source_route options
+
+-- the destination after a source route, or none: the last of its addresses, if any are left
+abbrev pub after_route : List ℕ → Option (List ℕ) → List ℕ
+after_route destination (Some route) = if has_addresses_left route
+    then slice_range route (length route - 4) (length route) else destination
+after_route destination None = destination
+
+-- the final destination of a packet of IPv4, from the destination of its header and the bytes of its
+-- options
+pub record GoesToIpv4 (destination bytes final : List ℕ) : Type 0 where
+  pub route : Option (List ℕ)
+  pub has_route : HasFirstRoute bytes route
+  pub is_final : final ≡ after_route destination route
+
+-- ---- IPv6
 
 -- how many addresses of a routing header are still to be visited: byte 3 (RFC 8200 section 4.4)
 abbrev pub segments_left : List ℕ → ℕ
@@ -63,27 +106,35 @@ last_address destination header =
     else (if slice_index header 2 == 3 then last_compressed destination header
     else (if slice_index header 2 == 4 then first_in_list header else None)))
 
--- The destination after an extension header of a number. A routing header (43) with segments left
--- makes it its last address; any other header leaves it as it is.
-abbrev pub after_header : List ℕ → ℕ → List ℕ → Option (List ℕ)
-after_header destination number header = if number == 43 && not (segments_left header == 0)
-    then last_address destination header else Some destination
+-- a payload header of Shim6 (140): bit 7 of byte 2 is set. Its receiver puts other addresses into the
+-- IPv6 header, which only the two hosts know (RFC 5533 sections 5.1 and 12.3).
+abbrev pub hides_addresses : ℕ → List ℕ → Bool
+hides_addresses number header = (number == 140) && nat_le 128 (slice_index header 2)
 
--- The final destination of a packet, from its destination, the number of its first extension header
--- and the bytes of all of them. It is unknown if a routing header with segments left has no last
--- address, or a header is incomplete. The compressed segments of RFC 9800 are not looked into.
-pub data GoesTo : List ℕ → ℕ → List ℕ → Option (List ℕ) → Type 0 where
+-- The destination after an extension header of a number. A routing header (43) with segments left
+-- makes it its last address, and a payload header of Shim6 an unknown one; any other header leaves
+-- it as it is.
+abbrev pub after_header : List ℕ → ℕ → List ℕ → Option (List ℕ)
+after_header destination number header =
+    if number == 43 && not (segments_left header == 0) then last_address destination header
+    else if hides_addresses number header then None else Some destination
+
+-- The final destination of a packet of IPv6 (RFC 8200 section 8.1), from the destination of its
+-- header, the number of its first extension header and the bytes of all of them. It is unknown if a
+-- routing header with segments left has no last address, Shim6 hides it, or a header is incomplete.
+-- The compressed segments of RFC 9800 are not looked into.
+pub data GoesToIpv6 : List ℕ → ℕ → List ℕ → Option (List ℕ) → Type 0 where
   arrives : {destination s : List ℕ} {number : ℕ}
-      → ¬ IsSkippable number → GoesTo destination number s (Some destination)
+      → ¬ IsSkippable number → GoesToIpv6 destination number s (Some destination)
   passes : {destination s next : List ℕ} {number : ℕ} {final : Option (List ℕ)}
       → IsSkippable number → required_len_of number s ≤ length s
       → after_header destination number (take (required_len_of number s) s) ≡ Some next
-      → GoesTo next (slice_index s 0) (drop (required_len_of number s) s) final
-      → GoesTo destination number s final
+      → GoesToIpv6 next (slice_index s 0) (drop (required_len_of number s) s) final
+      → GoesToIpv6 destination number s final
   loses_track : {destination s : List ℕ} {number : ℕ}
       → IsSkippable number → required_len_of number s ≤ length s
       → after_header destination number (take (required_len_of number s) s) ≡ None
-      → GoesTo destination number s None
+      → GoesToIpv6 destination number s None
   is_incomplete : {destination s : List ℕ} {number : ℕ}
       → IsSkippable number → length s < required_len_of number s
-      → GoesTo destination number s None
+      → GoesToIpv6 destination number s None

@@ -57,8 +57,9 @@ pub enum Absence {
     Incomplete,
     /// The sender has computed none: the field of UDP over IPv4 is 0 (RFC 768).
     NotComputed,
-    /// It covers the final destination, which a routing header of IPv6 with segments left does not
-    /// tell: its type is none of 0, 2, 3 and 4, or its numbers do not fit its length.
+    /// It covers the final destination of an IPv6 packet, which is unknown: a routing header with
+    /// segments left has a type other than 0, 2, 3 and 4, or its numbers do not fit its length; or a
+    /// payload header of Shim6 hides it.
     UnknownDestination,
 }
 
@@ -162,7 +163,7 @@ pub fn ipv4_verdict(
 
 /// The verdict on the checksum of an IPv6 packet's payload that is no fragment, from both addresses
 /// and the number of the payload, which has to end where the payload length says. The destination
-/// is the final one (RFC 8200 section 8.1), as [`final_destination`] gives it.
+/// is the final one (RFC 8200 section 8.1), as [`final_destination_ipv6`] gives it.
 ///
 /// # Example
 ///
@@ -179,7 +180,7 @@ pub fn ipv4_verdict(
 /// assert!(rt; verdict == Verdict::Wrong);
 /// ```
 ///
-/// [`final_destination`]: crate::final_destination::final_destination
+/// [`final_destination_ipv6`]: crate::final_destination::final_destination_ipv6
 pub fn ipv6_verdict(
     source: [u8; 16],
     destination: [u8; 16],

@@ -1,11 +1,85 @@
-//! Where an IPv6 packet with routing headers goes in the end.
+//! Where a packet goes in the end that a source route of IPv4 or routing headers of IPv6 send over
+//! several stops.
 
-ghost use Rattle.std.specs.Prelude.{ℕ, ◌≡◌, ◌≤◌, List, Option, length};
-ghost use Rattle.packet_parts.specs.FinalDestination.{GoesTo, after_header, first_in_list};
+ghost use Rattle.std.specs.Prelude.{ℕ, ◌≡◌, ◌≤◌, List, Option, Some, length, option_map};
+ghost use Rattle.packet_parts.specs.FinalDestination.{GoesToIpv4, GoesToIpv6, HasFirstRoute};
+ghost use Rattle.packet_parts.specs.FinalDestination.{after_header, after_route, first_in_list};
+ghost use Rattle.packet_parts.specs.FinalDestination.{is_source_route};
 ghost use Rattle.packet_parts.specs.FinalDestination.{last_address, last_compressed, last_in_list};
 ghost use Rattle.packet_parts.specs.FinalDestination.{only_address, segments_left};
 
 use etherparse::{IpNumber, Ipv6Header};
+use etherparse_net::Ipv4OptionsIterator;
+
+/// The final destination of an IPv4 packet, which its checksums cover, from the destination of its
+/// header and the bytes of its options.
+///
+/// It is the destination of the header, unless the options have a source route with addresses left
+/// (RFC 791 section 3.1, types 131 and 137): then it is the last of these addresses. If there are
+/// several source routes, the first one counts.
+///
+/// A source route whose pointer or length does not fit sends the packet nowhere. The options are
+/// read up to the first that is cut off or has a length below 2.
+///
+/// # Example
+///
+/// ```
+/// // A loose source route, whose pointer 4 says that both of its addresses are left.
+/// let mut options = [131, 11, 4, 192, 0, 2, 1, 192, 0, 2, 2, 0];
+/// assert!(rt; final_destination_ipv4([10, 0, 0, 1], &options) == [192, 0, 2, 2]);
+/// // After both stops it has the addresses of the routers, and the header the final destination.
+/// options[2] = 12;
+/// assert!(rt; final_destination_ipv4([192, 0, 2, 2], &options) == [192, 0, 2, 2]);
+/// ```
+pub fn final_destination_ipv4(destination: [u8; 4], options: &[u8]) -> [u8; 4]
+    ensures goes_to { GoesToIpv4 destination options.now result }
+    ensures only { (other : List ℕ) → GoesToIpv4 destination options.now other → other ≡ result }
+{
+    match first_source_route(options) {
+        Some(route) => after_route(destination, route),
+        None => destination,
+    }
+}
+
+// The first source route of the options, as far as these are whole.
+fn first_source_route(options: &[u8]) -> Option<&[u8]>
+    ensures found { HasFirstRoute options.now (option_map (λ route. route.now) result) }
+    ensures only { (other : Option (List ℕ)) → HasFirstRoute options.now other →
+        other ≡ option_map (λ route. route.now) result }
+{
+    let mut left = Ipv4OptionsIterator::new(options);
+    let mut first = None;
+    'options: loop {
+        match left.next_option() {
+            Some(Ok(option)) => {
+                if is_source_route(option.slice) {
+                    first = first.or(Some(option.slice));
+                }
+            }
+            Some(Err(_)) => return first,
+            None => return first,
+        }
+    }
+}
+
+// Whether an option is a source route.
+fn is_source_route(option: &[u8]) -> bool
+    requires some { 1 ≤ length option.now }
+    ensures value { result ≡ is_source_route option.now }
+{
+    option[0] == 131 || option[0] == 137
+}
+
+// The destination after a source route.
+fn after_route(destination: [u8; 4], route: &[u8]) -> [u8; 4]
+    ensures value { result ≡ after_route destination (Some route.now) }
+{
+    let len = route.len();
+    if len % 4 != 3 || route[2] % 4 != 0 || route[2] < 4 || len < usize::from(route[2]) {
+        return destination;
+    }
+    *route[len - 4..].first_chunk::<4>().unwrap()
+}
 
 /// The final destination of an IPv6 packet, which its checksums cover (RFC 8200 section 8.1), from
 /// the destination and the next header of its IPv6 header and the extension headers after it.
@@ -15,8 +89,8 @@ use etherparse::{IpNumber, Ipv6Header};
 ///
 /// `None` if it is not known: a routing header with segments left has a type other than 0 (RFC 2460
 /// section 4.4), 2 (RFC 6275 section 6.4), 3 (RFC 6554 section 3) and 4 (RFC 8754 section 2), or
-/// its numbers do not fit its length; or an extension header is incomplete. The compressed segments
-/// of RFC 9800 are not looked into.
+/// its numbers do not fit its length; a payload header of Shim6 hides it (RFC 5533 section 5.1); or
+/// an extension header is incomplete. The compressed segments of RFC 9800 are not looked into.
 ///
 /// What follows the fragment header of a later fragment is no header: leave it out, as
 /// [`IpSlice::extensions`] does.
@@ -30,19 +104,19 @@ use etherparse::{IpNumber, Ipv6Header};
 ///     0x01, 0x0d, 0xb8, 0, 0, 0, 0, 0, 0, 0, 0, 0, 0, 0, 3,
 /// ];
 /// let mut destination = [0x20, 0x01, 0x0d, 0xb8, 0, 0, 0, 0, 0, 0, 0, 0, 0, 0, 0, 3];
-/// let last = final_destination(destination, IpNumber::IPV6_ROUTE_HEADER, &header);
+/// let last = final_destination_ipv6(destination, IpNumber::IPV6_ROUTE_HEADER, &header);
 /// destination[15] = 4;
 /// assert!(rt; last == Some(destination));
 /// ```
 ///
 /// [`IpSlice::extensions`]: crate::ip_slice::IpSlice
-pub fn final_destination(
+pub fn final_destination_ipv6(
     destination: [u8; 16],
     first: IpNumber,
     extensions: &[u8],
 ) -> Option<[u8; 16]>
-    ensures goes_to { GoesTo destination first extensions.now result }
-    ensures only { (other : Option (List ℕ)) → GoesTo destination first extensions.now other →
+    ensures goes_to { GoesToIpv6 destination first extensions.now result }
+    ensures only { (other : Option (List ℕ)) → GoesToIpv6 destination first extensions.now other →
         other ≡ result }
 {
     let mut last = destination;
@@ -72,6 +146,8 @@ fn after_header(destination: [u8; 16], number: IpNumber, header: &[u8]) -> Optio
 {
     if number == IpNumber::IPV6_ROUTE_HEADER && header[3] != 0 {
         last_address(destination, header)
+    } else if number == IpNumber::SHIM6 && header[2] >= 128 {
+        None
     } else {
         Some(destination)
     }

@@ -17,7 +17,7 @@ ghost use Rattle.packet_parts.specs.declared.ip_slice.IpSliceError.TheVariants a
 
 use crate::checksum::{Absence, Verdict, ipv4_verdict, ipv6_verdict, verdict_to_unknown};
 use crate::extensions::after_extensions;
-use crate::final_destination::final_destination;
+use crate::final_destination::{final_destination_ipv4, final_destination_ipv6};
 use crate::fragment::Fragment;
 use etherparse::err::{Layer, LenError, ipv4, ipv6};
 use etherparse::{IpNumber, Ipv4HeaderSlice, Ipv6Header, Ipv6HeaderSlice, LenSource};
@@ -214,8 +214,8 @@ impl<'a> IpSlice<'a> {
     }
 
     /// The destination of the header: the next stop of a packet that a routing header (RFC 8200
-    /// section 4.4) or a source route option (RFC 791 section 3.1) sends on. The
-    /// [`final_destination`] of an IPv6 packet can be another one.
+    /// section 4.4) or a source route option (RFC 791 section 3.1) sends on. Its final destination
+    /// can be another one: [`final_destination_ipv4`], [`final_destination_ipv6`].
     pub fn destination(&self) -> IpAddr
         ensures value { IsAddressIn self.now.header result (destination_of self.now.header) }
     {
@@ -225,13 +225,13 @@ impl<'a> IpSlice<'a> {
         }
     }
 
-    /// The verdict on the checksum of the payload: `Absent(Fragment)`, or that of [`ipv4_verdict`]
-    /// with the header's addresses, or that of [`ipv6_verdict`] with its source and the
-    /// [`final_destination`]; if that is unknown, `UnknownDestination` instead of right or wrong.
+    /// The verdict on the checksum of the payload: `Absent(Fragment)`, or that of [`ipv4_verdict`] or
+    /// [`ipv6_verdict`] between the header's source and the final destination, as
+    /// [`final_destination_ipv4`] and [`final_destination_ipv6`] give it; if that is unknown,
+    /// `UnknownDestination` instead of right or wrong.
     ///
-    /// A checksum that covers other addresses is found `Wrong`: that of an IPv4 packet which a
-    /// source route option sends on (RFC 791 section 3.1), and that of a mobile node, which covers
-    /// its home address (RFC 6275 section 11.3.1).
+    /// The checksum of a mobile node that is away from home covers its home address (RFC 6275 section
+    /// 11.3.1), not the source, and is found `Wrong`.
     ///
     /// The payload is taken for whole: for [`LaxIpSlice::slice`] there is [`LaxIpSlice::verdict`].
     pub fn verdict(&self) -> Verdict
@@ -240,10 +240,11 @@ impl<'a> IpSlice<'a> {
         match (self.fragment, &self.header) {
             (Some(_), _) => Verdict::Absent(Absence::Fragment),
             (None, IpHeaderSlice::Ipv4(view)) => {
-                ipv4_verdict(view.source(), view.destination(), self.upper, self.payload)
+                let last = final_destination_ipv4(view.destination(), view.options());
+                ipv4_verdict(view.source(), last, self.upper, self.payload)
             }
             (None, IpHeaderSlice::Ipv6(view)) => {
-                match final_destination(view.destination(), view.next_header(), self.extensions) {
+                match final_destination_ipv6(view.destination(), view.next_header(), self.extensions) {
                     Some(last) => ipv6_verdict(view.source(), last, self.upper, self.payload),
                     None => verdict_to_unknown(self.upper, self.payload),
                 }

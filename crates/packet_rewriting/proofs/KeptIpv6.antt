@@ -9,9 +9,9 @@ use Rattle.etherparse.specs.Reading.{BeginsWith}
 use Rattle.etherparse.specs.WordSums.{network_order_word_sum, ones_complement_sum}
 use Rattle.etherparse.specs.declared.net.ipv6_header.Ipv6Header.{Ipv6Header}
 use Rattle.etherparse.specs.ExtensionHeaderChain.{required_len_of}
-use Rattle.packet_parts.proofs.FinalDestinations.{goes_len, goes_once}
+use Rattle.packet_parts.proofs.FinalDestinations.{goes_len_ipv6, goes_once_ipv6}
 use Rattle.packet_parts.specs.Checksum.{Covers, IsVerdictIpv6, IsVerdictTo, ipv6_pseudo_header}
-use Rattle.packet_parts.specs.FinalDestination.{GoesTo, after_header, arrives, first_in_list, is_incomplete, last_address, last_compressed, last_in_list, loses_track, only_address, passes}
+use Rattle.packet_parts.specs.FinalDestination.{hides_addresses, GoesToIpv6, after_header, arrives, first_in_list, is_incomplete, last_address, last_compressed, last_in_list, loses_track, only_address, passes}
 use Rattle.packet_parts.specs.IpSlice.{header_bytes}
 use Rattle.packet_parts.specs.declared.checksum.Verdict.TheVariants.{Right}
 use Rattle.packet_parts.specs.declared.ip_slice.IpHeaderSlice.{IpHeaderSlice}
@@ -21,7 +21,7 @@ use Rattle.packet_rewriting.proofs.ChecksumWords.{even_header, in_pieces}
 use Rattle.packet_rewriting.proofs.KeptRight.{field_there, kept_in, of_pieces, same_field, updated_fits, updated_there}
 use Rattle.packet_rewriting.proofs.Readdressed.{least_enough}
 use Rattle.packet_rewriting.proofs.RightChecksums.{covers_enough, covers_written, has_checksum, same_length}
-use Rattle.packet_rewriting.specs.Fields.{CutsIpv6, KeepsRightIpv6, ReaddressesIpv6, Reaches, UpdatesForDestination, UpdatesForFinal, UpdatesForSource, UpdatesPayload, UpdatesUpper, covers_addresses, updated_upper, version_in, with_updated}
+use Rattle.packet_rewriting.specs.Fields.{CutsIpv6, KeepsRightIpv6, ReaddressesIpv6, Reaches, UpdatesForDestinationIpv6, UpdatesForFinal, UpdatesForSourceIpv6, UpdatesPayload, UpdatesUpper, covers_addresses, updated_upper, version_in, with_updated}
 use Rattle.packet_rewriting.specs.UpperChecksum.{checksum_field, checksum_place, with_checksum}
 use Rattle.packet_rewriting.specs.declared.fields.Cut.{Cut}
 use Rattle.packet_rewriting.specs.declared.fields.Reach.{Reach}
@@ -156,12 +156,13 @@ some_known : (a b : List ℕ) → SameKnown (Some a) (Some b)
 some_known a b x is none = cc
 
 after_known : (d e : List ℕ) (n : ℕ) (h : List ℕ) → SameKnown (after_header d n h) (after_header e n h)
-after_known d e n h = either_known _ (last_address d h) (Some d) (last_address e h) (Some e)
+after_known d e n h = either_known _ (last_address d h) _ (last_address e h) _
     (either_known _ (last_in_list h) _ (last_in_list h) _ (itself_known (last_in_list h)) (either_known _ (only_address h) _ (only_address h) _ (itself_known (only_address h))
     (either_known _ (last_compressed d h) _ (last_compressed e h) _ (either_known _ (Some _) None (Some _) None (some_known _ _) (itself_known None))
-    (itself_known (if slice_index h 2 == 4 then first_in_list h else None))))) (some_known d e)
+    (itself_known (if slice_index h 2 == 4 then first_in_list h else None)))))
+    (either_known (hides_addresses n h) None (Some d) None (Some e) (itself_known None) (some_known d e))
 
-goes_known : (d e : List ℕ) (n : ℕ) (s a : List ℕ) → GoesTo d n s (Some a) → GoesTo e n s None → ⊥
+goes_known : (d e : List ℕ) (n : ℕ) (s a : List ℕ) → GoesToIpv6 d n s (Some a) → GoesToIpv6 e n s None → ⊥
 goes_known d e n s a (arrives other) (passes skippable _ _ _) = other skippable
 goes_known d e n s a (arrives other) (loses_track skippable _ _) = other skippable
 goes_known d e n s a (arrives other) (is_incomplete skippable _) = other skippable
@@ -190,16 +191,16 @@ final_kept_to reach slice source old new payload six reaches now a b c updates r
     reach_kept_ipv6 reach slice source old source new old new payload (network_order_word_sum source) six reaches now a b a c (omega arith) (omega arith) updates right
 
 pub source_kept : {before : List ℕ} {header : Ipv6Header} {cut : Cut} (cuts : CutsIpv6 before header cut) (source payload : List ℕ) → length source ≡ 16
-    → UpdatesForSource source cuts.slice header cut.reach payload → cuts.slice.is_later_fragment ≡ false → KeepsRightIpv6 cuts.slice header (record header { source = source }) payload
+    → UpdatesForSourceIpv6 source cuts.slice header cut.reach payload → cuts.slice.is_later_fragment ≡ false → KeepsRightIpv6 cuts.slice header (record header { source = source }) payload
 source_kept {header = header} {cut = cut} cuts source payload len updates now None new goes_old goes_new right = absurd right
 source_kept {header = header} {cut = cut} cuts source payload len updates now (Some old) new goes_old goes_new right =
-    let same = goes_once header.destination header.next_header cuts.slice.extensions.now (Some old) new goes_old goes_new in
+    let same = goes_once_ipv6 header.destination header.next_header cuts.slice.extensions.now (Some old) new goes_old goes_new in
     let lens = sixteen cuts.layout in
     subst (λ final. IsVerdictTo source final cuts.slice.upper payload Right) same (source_kept_to cut.reach cuts.slice header.source source old payload cuts.version cuts.reaches now lens.0 len
-    (goes_len header.destination header.next_header cuts.slice.extensions.now old lens.1 goes_old) updates right)
+    (goes_len_ipv6 header.destination header.next_header cuts.slice.extensions.now old lens.1 goes_old) updates right)
 
 destination_kept_to : {before : List ℕ} {header : Ipv6Header} {cut : Cut} (cuts : CutsIpv6 before header cut) (destination payload : List ℕ) → length destination ≡ 16
-    → (old new : Option (List ℕ)) → GoesTo header.destination header.next_header cuts.slice.extensions.now old → GoesTo destination header.next_header cuts.slice.extensions.now new
+    → (old new : Option (List ℕ)) → GoesToIpv6 header.destination header.next_header cuts.slice.extensions.now old → GoesToIpv6 destination header.next_header cuts.slice.extensions.now new
     → UpdatesForFinal cut.reach cuts.slice.upper old new cuts.slice.payload.now payload → cuts.slice.is_later_fragment ≡ false
     → IsVerdictTo header.source old cuts.slice.upper cuts.slice.payload.now Right → IsVerdictTo header.source new cuts.slice.upper payload Right
 destination_kept_to cuts destination payload len None new goes_old goes_new updates now right = absurd right
@@ -209,16 +210,16 @@ destination_kept_to {header = header} cuts destination payload len (Some old) (S
 destination_kept_to {header = header} {cut = cut} cuts destination payload len (Some old) (Some new) goes_old goes_new (inr (other, updates)) now right =
     let lens = sixteen cuts.layout in
     let extensions = cuts.slice.extensions.now in
-    final_kept_to cut.reach cuts.slice header.source old new payload cuts.version cuts.reaches now lens.0 (goes_len header.destination header.next_header extensions old lens.1 goes_old)
-    (goes_len destination header.next_header extensions new len goes_new) updates right
+    final_kept_to cut.reach cuts.slice header.source old new payload cuts.version cuts.reaches now lens.0 (goes_len_ipv6 header.destination header.next_header extensions old lens.1 goes_old)
+    (goes_len_ipv6 destination header.next_header extensions new len goes_new) updates right
 
 pub destination_kept : {before : List ℕ} {header : Ipv6Header} {cut : Cut} (cuts : CutsIpv6 before header cut) (destination payload : List ℕ) → length destination ≡ 16
-    → UpdatesForDestination destination cuts.slice header cut.reach payload → cuts.slice.is_later_fragment ≡ false
+    → UpdatesForDestinationIpv6 destination cuts.slice header cut.reach payload → cuts.slice.is_later_fragment ≡ false
     → KeepsRightIpv6 cuts.slice header (record header { destination = destination }) payload
 destination_kept {header = header} {cut = cut} cuts destination payload len updates now old new goes_old goes_new right =
     let extensions = cuts.slice.extensions.now in
-    let was = goes_once header.destination header.next_header extensions old updates.old goes_old updates.goes_to_old in
-    let is = goes_once destination header.next_header extensions updates.new new updates.goes_to_new goes_new in
+    let was = goes_once_ipv6 header.destination header.next_header extensions old updates.old goes_old updates.goes_to_old in
+    let is = goes_once_ipv6 destination header.next_header extensions updates.new new updates.goes_to_new goes_new in
     subst (λ final. IsVerdictTo header.source final cuts.slice.upper payload Right) is
     (destination_kept_to cuts destination payload len updates.old updates.new updates.goes_to_old updates.goes_to_new updates.updated now
     (subst (λ final. IsVerdictTo header.source final cuts.slice.upper cuts.slice.payload.now Right) was right))
@@ -230,18 +231,18 @@ extensions_are cuts front is = ap (drop 40) (headers_are cuts front is) ∙ drop
 
 -- the payload that is updated is that of the parts
 pub updated_source : {before : List ℕ} {header : Ipv6Header} {cut : Cut} (cuts : CutsIpv6 before header cut) (source rest payload : List ℕ) → rest ≡ drop cut.header_len before
-    → UpdatesPayload cut.reach 8 cut.upper header.source source (take cut.payload_len rest) payload → UpdatesForSource source cuts.slice header cut.reach payload
+    → UpdatesPayload cut.reach 8 cut.upper header.source source (take cut.payload_len rest) payload → UpdatesForSourceIpv6 source cuts.slice header cut.reach payload
 updated_source cuts source rest payload rest_is updates = rw (taken cuts rest rest_is, cuts.upper) at updates
 
 pub updated_destination : {before : List ℕ} {header : Ipv6Header} {cut : Cut} (cuts : CutsIpv6 before header cut) (destination front rest payload : List ℕ) (old new : Option (List ℕ))
-    → front ≡ take cut.header_len before → rest ≡ drop cut.header_len before → GoesTo header.destination header.next_header (drop 40 front) old
-    → GoesTo destination header.next_header (drop 40 front) new → UpdatesForFinal cut.reach cut.upper old new (take cut.payload_len rest) payload
-    → UpdatesForDestination destination cuts.slice header cut.reach payload
+    → front ≡ take cut.header_len before → rest ≡ drop cut.header_len before → GoesToIpv6 header.destination header.next_header (drop 40 front) old
+    → GoesToIpv6 destination header.next_header (drop 40 front) new → UpdatesForFinal cut.reach cut.upper old new (take cut.payload_len rest) payload
+    → UpdatesForDestinationIpv6 destination cuts.slice header cut.reach payload
 updated_destination {header = header} {cut = cut} cuts destination front rest payload old new front_is rest_is goes_old goes_new updates = record {
   old = old;
   new = new;
-  goes_to_old = subst (λ e. GoesTo header.destination header.next_header e old) (extensions_are cuts front front_is) goes_old;
-  goes_to_new = subst (λ e. GoesTo destination header.next_header e new) (extensions_are cuts front front_is) goes_new;
+  goes_to_old = subst (λ e. GoesToIpv6 header.destination header.next_header e old) (extensions_are cuts front front_is) goes_old;
+  goes_to_new = subst (λ e. GoesToIpv6 destination header.next_header e new) (extensions_are cuts front front_is) goes_new;
   updated = subst (λ p. UpdatesForFinal cut.reach cuts.slice.upper old new p payload) (taken cuts rest rest_is)
       (subst (λ n. UpdatesForFinal cut.reach n old new (take cut.payload_len rest) payload) cuts.upper updates);
 }

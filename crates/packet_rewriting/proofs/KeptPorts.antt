@@ -5,7 +5,7 @@ use Rattle.std.proofs.lemmas.Bool.Decides.{nat_tests}
 use Rattle.std.proofs.lemmas.List.{get_or-set_other, get_or-take}
 use Rattle.etherparse.proofs.WordSumLaws.{network_order_word_sum-append}
 use Rattle.etherparse.specs.WordSums.{SumsToAllOnes, folded_sum, network_order_word_sum, ones_complement_sum}
-use Rattle.packet_parts.proofs.FinalDestinations.{goes_len}
+use Rattle.packet_parts.proofs.FinalDestinations.{goes_len_ipv6, goes_len_ipv4}
 use Rattle.packet_parts.specs.Checksum.{BeginsWithDatagram, Covers, IsVerdictIpv4, IsVerdictIpv6, IsVerdictOver, IsWithoutChecksum, ipv4_pseudo_header, ipv6_pseudo_header, udp_checksum, udp_length}
 use Rattle.packet_parts.specs.declared.checksum.Verdict.TheVariants.{Right}
 use Rattle.packet_parts.specs.declared.ip_slice.IpHeaderSlice.{IpHeaderSlice}
@@ -201,14 +201,18 @@ pub port_kept : (h : IpHeaderSlice) (extensions : List ℕ) (number offset port 
     → UpdatesUpper number (checksum_field number payload) (network_order_word_sum (word_at offset payload)) (network_order_word_sum (to_be_bytes w16 port))
     (updated_upper 1 number (checksum_field number payload) (word_at offset payload) (to_be_bytes w16 port))
     → IsVerdictOver h extensions number payload Right → IsVerdictOver h extensions number (with_port number offset (to_be_bytes w16 port) payload) Right
-port_kept (header.Ipv4 view) extensions number offset port payload ports even within updates right =
+port_kept (header.Ipv4 view) extensions number offset port payload ports even within updates (last, goes, right) =
     let bytes = view.slice.now in
-    port_kept_ipv4 number offset (port / 256 % 256) (port % 256) (slice_range bytes 12 16) (slice_range bytes 16 20) payload ports
-    (omega (arith, view.len, view.ihl, length-take 4 (drop 12 bytes), length-drop 12 bytes)) (omega (arith, view.len, view.ihl, length-take 4 (drop 16 bytes), length-drop 16 bytes)) even within updates right
+    let len = goes_len_ipv4 (slice_range bytes 16 20) (drop 20 bytes) last (omega (arith, view.len, view.ihl, length-take 4 (drop 16 bytes), length-drop 16 bytes)) goes in (
+      last,
+      goes,
+      port_kept_ipv4 number offset (port / 256 % 256) (port % 256) (slice_range bytes 12 16) last payload ports
+          (omega (arith, view.len, view.ihl, length-take 4 (drop 12 bytes), length-drop 12 bytes)) len even within updates right,
+    )
 port_kept (header.Ipv6 view) extensions number offset port payload ports even within updates (None, goes, right) = absurd right
 port_kept (header.Ipv6 view) extensions number offset port payload ports even within updates (Some last, goes, right) =
     let bytes = view.slice.now in
-    let len = goes_len (slice_range bytes 24 40) (slice_index bytes 6) extensions last (omega (arith, view.len, length-take 16 (drop 24 bytes), length-drop 24 bytes)) goes in (
+    let len = goes_len_ipv6 (slice_range bytes 24 40) (slice_index bytes 6) extensions last (omega (arith, view.len, length-take 16 (drop 24 bytes), length-drop 24 bytes)) goes in (
       Some last,
       goes,
       port_kept_ipv6 number offset (port / 256 % 256) (port % 256) (slice_range bytes 8 24) last payload ports

@@ -1,5 +1,5 @@
 -- An IPv4 packet with another address, from its parts.
-use Rattle.std.proofs.Common.{ℕ, true, false, ◌≡◌, ◌≢◌, ◌≤◌, ◌+◌, ◌*◌, ◌%◌, ◌^◌, ◌∙◌, ◌⊎◌, List, [], ◌∷◌, ◌++◌, ap, append-nil, arith, drop, length, length-append, length-drop, length-take, refl, slice_range, subst, sym, take, take_at, append_assoc, w16}
+use Rattle.std.proofs.Common.{ℕ, true, false, inl, inr, ◌≡◌, ◌≢◌, ◌≤◌, ◌+◌, ◌*◌, ◌%◌, ◌^◌, ◌∙◌, ◌⊎◌, List, [], ◌∷◌, ◌++◌, ap, append-nil, arith, drop, length, length-append, length-drop, length-take, refl, slice_range, subst, sym, take, take_at, append_assoc, w16}
 use Rattle.std.specs.Int.{to_be_bytes}
 use Rattle.std.proofs.lemmas.Bool.Decides.{nat_tests}
 use Rattle.std.proofs.lemmas.List.{drop_at}
@@ -10,6 +10,8 @@ use Rattle.etherparse.specs.Reading.{BeginsWith}
 use Rattle.etherparse.specs.WordSums.{network_order_word_sum, updated_checksum, updated_checksum_of_words}
 use Rattle.etherparse.specs.declared.net.ipv4_header.Ipv4Header.{Ipv4Header}
 use Rattle.packet_parts.specs.Checksum.{IsVerdictIpv4}
+use Rattle.packet_parts.specs.FinalDestination.{GoesToIpv4}
+use Rattle.packet_parts.proofs.FinalDestinations.{goes_len_ipv4, goes_once_ipv4}
 use Rattle.packet_parts.proofs.IpParts.{ipv4_front, ipv6_front}
 use Rattle.packet_parts.specs.IpSlice.{HasIpParts, HasPartsWith, header_bytes}
 use Rattle.packet_parts.specs.declared.checksum.Verdict.TheVariants.{Right}
@@ -18,7 +20,7 @@ use Rattle.packet_parts.specs.declared.ip_slice.IpHeaderSlice.TheVariants as hea
 use Rattle.packet_parts.specs.declared.ip_slice.IpSlice.{IpSlice}
 use Rattle.packet_rewriting.proofs.KeptPorts.{port_kept}
 use Rattle.packet_rewriting.proofs.KeptRight.{verdict_kept, verdict_of_other}
-use Rattle.packet_rewriting.specs.Fields.{ChangesPort, CutsAtPorts, CutsIpv4, MarksIpv4, ReaddressesIpv4, Reaches, UpdatesPayload, UpdatesUpper, covers_addresses, least_len, updated_upper, version_in, with_port, word_at}
+use Rattle.packet_rewriting.specs.Fields.{ChangesPort, CutsAtPorts, CutsIpv4, KeepsRightIpv4, MarksIpv4, ReaddressesIpv4, Reaches, UpdatesForDestinationIpv4, UpdatesForSourceIpv4, UpdatesIfOther, UpdatesPayload, UpdatesUpper, covers_addresses, least_len, updated_upper, version_in, with_port, word_at}
 use Rattle.packet_rewriting.specs.UpperChecksum.{checksum_field, checksum_place}
 use Rattle.packet_rewriting.specs.declared.fields.Cut.{Cut}
 use Rattle.packet_rewriting.specs.declared.fields.Reach.{Reach}
@@ -157,40 +159,72 @@ four_bytes {bytes = bytes} l = (
   omega (arith, l.layout.len, ap length l.layout.destination, length-take 4 (drop 16 bytes), length-drop 16 bytes),
 )
 
--- a payload that is right with the old addresses is right with the new ones
-reach_kept : (reach : Reach) (slice : IpSlice) (g h : Ipv4Header) (bytes next_bytes old new payload : List ℕ) (rest : ℕ) → version_in slice.header ≡ 4 → Reaches slice reach
-    → slice.is_later_fragment ≡ false → IsIpv4Layout g bytes → IsIpv4Layout h next_bytes
-    → network_order_word_sum g.source + network_order_word_sum g.destination ≡ network_order_word_sum old + rest
-    → network_order_word_sum h.source + network_order_word_sum h.destination ≡ network_order_word_sum new + rest
+-- a payload that is right between the old addresses is right between the new ones
+reach_kept : (reach : Reach) (slice : IpSlice) (source destination next_source next_destination old new payload : List ℕ) (rest : ℕ) → version_in slice.header ≡ 4 → Reaches slice reach
+    → slice.is_later_fragment ≡ false → length source ≡ 4 → length destination ≡ 4 → length next_source ≡ 4 → length next_destination ≡ 4
+    → network_order_word_sum source + network_order_word_sum destination ≡ network_order_word_sum old + rest
+    → network_order_word_sum next_source + network_order_word_sum next_destination ≡ network_order_word_sum new + rest
     → UpdatesPayload reach 2 slice.upper old new slice.payload.now payload
-    → IsVerdictIpv4 g.source g.destination slice.upper slice.payload.now Right → IsVerdictIpv4 h.source h.destination slice.upper payload Right
-reach_kept reaching.Upper slice g h bytes next_bytes old new payload rest version reaches now layout next words next_words updates right =
-    let (a, b) = four_bytes layout in
-    let (c, d) = four_bytes next in
-    rw updates.is (verdict_kept 2 slice.upper g.source g.destination h.source h.destination old new slice.payload.now rest (covers_ipv4 slice.header slice.upper version reaches.1)
+    → IsVerdictIpv4 source destination slice.upper slice.payload.now Right → IsVerdictIpv4 next_source next_destination slice.upper payload Right
+reach_kept reaching.Upper slice source destination next_source next_destination old new payload rest version reaches now a b c d words next_words updates right =
+    rw updates.is (verdict_kept 2 slice.upper source destination next_source next_destination old new slice.payload.now rest (covers_ipv4 slice.header slice.upper version reaches.1)
     a b c d words next_words (updates.updates refl) right)
-reach_kept reaching.LaterFragment slice g h bytes next_bytes old new payload rest version reaches now layout next words next_words updates right = absurd (grind (arith, reaches, now))
-reach_kept reaching.OtherProtocol slice g h bytes next_bytes old new payload rest version reaches now layout next words next_words updates right =
-    rw updates.is (verdict_of_other slice.upper g.source g.destination h.source h.destination slice.payload.now (covers_no_udp slice.header slice.upper reaches.1)
+reach_kept reaching.LaterFragment slice source destination next_source next_destination old new payload rest version reaches now a b c d words next_words updates right = absurd (grind (arith, reaches, now))
+reach_kept reaching.OtherProtocol slice source destination next_source next_destination old new payload rest version reaches now a b c d words next_words updates right =
+    rw updates.is (verdict_of_other slice.upper source destination next_source next_destination slice.payload.now (covers_no_udp slice.header slice.upper reaches.1)
     (covers_no_tcp slice.header slice.upper reaches.1) right)
 
+-- a checksum that was right is right with another source, and for another final destination
+pub source_kept_ipv4 : {before : List ℕ} {header : Ipv4Header} {cut : Cut} (cuts : CutsIpv4 before header cut) (next : Ipv4Header) (source payload : List ℕ) → length source ≡ 4
+    → next.source ≡ source → next.destination ≡ header.destination → next.options ≡ header.options → UpdatesForSourceIpv4 source cuts.slice header cut.reach payload
+    → cuts.slice.is_later_fragment ≡ false → KeepsRightIpv4 cuts.slice header next payload
+source_kept_ipv4 {header = header} {cut = cut} cuts next source payload len is stays options_stay updates now old new goes_old goes_new right =
+    let same : new ≡ old = goes_once_ipv4 header.destination header.options old new goes_old (rw (stays, options_stay) at goes_new) in
+    let lens = four_bytes cuts.layout in
+    let last = goes_len_ipv4 header.destination header.options old lens.1 goes_old in
+    rw (is, same) (reach_kept cut.reach cuts.slice header.source old source old header.source source payload (network_order_word_sum old) cuts.version cuts.reaches now lens.0 last len last
+    refl refl updates right)
+
+pub destination_kept_ipv4 : {before : List ℕ} {header : Ipv4Header} {cut : Cut} (cuts : CutsIpv4 before header cut) (next : Ipv4Header) (destination payload : List ℕ) → length destination ≡ 4
+    → next.source ≡ header.source → next.destination ≡ destination → next.options ≡ header.options → UpdatesForDestinationIpv4 destination cuts.slice header cut.reach payload
+    → cuts.slice.is_later_fragment ≡ false → KeepsRightIpv4 cuts.slice header next payload
+destination_kept_ipv4 {header = header} {cut = cut} cuts next destination payload len stays is options_stay updates now old new goes_old goes_new right =
+    let goes_next = rw (is, options_stay) at goes_new in
+    let was : old ≡ updates.old = goes_once_ipv4 header.destination header.options updates.old old updates.goes_to_old goes_old in
+    let will : new ≡ updates.new = goes_once_ipv4 destination header.options updates.new new updates.goes_to_new goes_next in
+    let lens = four_bytes cuts.layout in
+    let len_old = goes_len_ipv4 header.destination header.options updates.old lens.1 updates.goes_to_old in
+    let len_new = goes_len_ipv4 destination header.options updates.new len updates.goes_to_new in
+    let right_old = rw was at right in
+    rw (stays, will) (elim updates.updated [
+      inl (same, kept) ↦ rw (sym same, kept) right_old
+    | inr (other, updated) ↦ reach_kept cut.reach cuts.slice header.source updates.old header.source updates.new updates.old updates.new payload (network_order_word_sum header.source)
+        cuts.version cuts.reaches now lens.0 len_old lens.0 len_new (omega arith) (omega arith) updated right_old
+    ])
+
+-- the payload that is updated is that of the parts
+pub updated_source_ipv4 : {before : List ℕ} {header : Ipv4Header} {cut : Cut} (cuts : CutsIpv4 before header cut) (source rest payload : List ℕ) → rest ≡ drop cut.header_len before
+    → UpdatesPayload cut.reach 2 cut.upper header.source source (take cut.payload_len rest) payload → UpdatesForSourceIpv4 source cuts.slice header cut.reach payload
+updated_source_ipv4 cuts source rest payload rest_is updates = rw (payload_is cuts rest rest_is, cuts.upper) at updates
+
+pub updated_destination_ipv4 : {before : List ℕ} {header : Ipv4Header} {cut : Cut} (cuts : CutsIpv4 before header cut) (destination rest payload old new : List ℕ) → rest ≡ drop cut.header_len before
+    → GoesToIpv4 header.destination header.options old → GoesToIpv4 destination header.options new
+    → UpdatesIfOther 2 cut.reach cut.upper old new (take cut.payload_len rest) payload → UpdatesForDestinationIpv4 destination cuts.slice header cut.reach payload
+updated_destination_ipv4 {header = header} {cut = cut} cuts destination rest payload old new rest_is goes_old goes_new updates =
+    record { old = old; new = new; goes_to_old = goes_old; goes_to_new = goes_new; updated = rw (payload_is cuts rest rest_is, cuts.upper) at updates }
+
 -- the packet with another address, from what was written to its parts
-pub readdressed : {before : List ℕ} {header : Ipv4Header} {cut : Cut} (cuts : CutsIpv4 before header cut) (offset : ℕ) (old address after first front rest payload : List ℕ)
-    (next : Ipv4Header) (others : ℕ) → first ≡ take cut.header_len before → rest ≡ drop cut.header_len before
+pub readdressed : {before : List ℕ} {header : Ipv4Header} {cut : Cut} (cuts : CutsIpv4 before header cut) (Updates : IpSlice → Ipv4Header → Reach → List ℕ → Type 0) (offset : ℕ)
+    (old address after first front rest payload : List ℕ) (next : Ipv4Header) → first ≡ take cut.header_len before → rest ≡ drop cut.header_len before
     → old ≡ slice_range (header_bytes cuts.slice.header) offset (offset + 4) → next.header_checksum ≡ updated_checksum_of_words 2 header.header_checksum old address
     → ChangesInPlace header next offset address → front ≡ with_field_and_checksum offset address next.header_checksum first
-    → UpdatesPayload cut.reach 2 cut.upper old address (take cut.payload_len rest) payload → after ≡ front ++ (payload ++ drop cut.payload_len rest)
-    → network_order_word_sum header.source + network_order_word_sum header.destination ≡ network_order_word_sum old + others
-    → network_order_word_sum next.source + network_order_word_sum next.destination ≡ network_order_word_sum address + others
-    → ReaddressesIpv4 offset address before after cut.reach
-readdressed {header = header} {cut = cut} cuts offset old address after first front rest payload next others first_is rest_at old_is checksum in_place written updates whole words next_words =
+    → Updates cuts.slice header cut.reach payload → after ≡ front ++ (payload ++ drop cut.payload_len rest)
+    → (cuts.slice.is_later_fragment ≡ false → KeepsRightIpv4 cuts.slice header next payload) → ReaddressesIpv4 Updates offset address before after cut.reach
+readdressed {header = header} cuts Updates offset old address after first front rest payload next first_is rest_at old_is checksum in_place written updates whole keeps =
     let slice = cuts.slice in
     let bytes = header_bytes slice.header in
     let begins : BeginsWith IsIpv4Layout bytes header [] = record { front = bytes; whole = sym (append-nil bytes); layout = cuts.layout } in
     let front_at : front ≡ with_field_and_checksum offset address next.header_checksum bytes = written ∙ ap (with_field_and_checksum offset address next.header_checksum) (front_is cuts first first_is) in
-    let becomes : BecomesPacketOf bytes front next [] = subst (λ f. BecomesPacketOf bytes f next []) (sym front_at) (in_place bytes [] begins) in
-    let next_layout : IsIpv4Layout next front = subst (IsIpv4Layout next) (sym (becomes.begins.whole ∙ append-nil becomes.begins.front)) becomes.begins.layout in
-    let updated : UpdatesPayload cut.reach 2 slice.upper old address slice.payload.now payload = rw (payload_is cuts rest rest_at, cuts.upper) at updates in
     record {
       slice = slice;
       parts = cuts.parts;
@@ -204,13 +238,11 @@ readdressed {header = header} {cut = cut} cuts offset old address after first fr
       checksum = checksum ∙ ap (λ o. updated_checksum_of_words 2 header.header_checksum o address) old_is;
       front = front;
       written = front_at;
-      becomes = becomes;
+      becomes = subst (λ f. BecomesPacketOf bytes f next []) (sym front_at) (in_place bytes [] begins);
       payload = payload;
-      updated = subst (λ o. UpdatesPayload cut.reach 2 slice.upper o address slice.payload.now payload) old_is updated;
+      updated = updates;
       changed = whole ∙ ap (λ t. front ++ (payload ++ t)) (trailer_is cuts rest rest_at);
-      keeps_right = λ now right. rw (next_layout.layout.source, next_layout.layout.destination)
-          (reach_kept cut.reach slice header next bytes front old address payload others cuts.version cuts.reaches now cuts.layout next_layout words next_words updated
-          (rw (cuts.layout.layout.source, cuts.layout.layout.destination) at right));
+      keeps_right = keeps;
     }
 
 -- how long a packet is that begins with a header

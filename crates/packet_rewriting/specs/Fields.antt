@@ -17,7 +17,7 @@ use Rattle.etherparse.specs.declared.IpEcn.{IpEcn}
 use Rattle.etherparse.specs.declared.net.ipv4_header.Ipv4Header.{Ipv4Header}
 use Rattle.etherparse.specs.declared.net.ipv6_header.Ipv6Header.{Ipv6Header}
 use Rattle.packet_parts.specs.Checksum.{IsVerdictIpv4, IsVerdictOver, IsVerdictTo}
-use Rattle.packet_parts.specs.FinalDestination.{GoesTo}
+use Rattle.packet_parts.specs.FinalDestination.{GoesToIpv4, GoesToIpv6}
 use Rattle.packet_parts.specs.IpSlice.{IsIpPacket, RefusesIp, header_bytes, header_len_of}
 use Rattle.packet_parts.specs.IpSlice.{ip_slice_error_text}
 use Rattle.packet_parts.specs.declared.checksum.Verdict.TheVariants.{Right}
@@ -125,10 +125,40 @@ pub record UpdatesPayload (reach : Reach) (words number : ℕ) (old new before a
       (network_order_word_sum old) (network_order_word_sum new)
       (updated_upper words number (checksum_field number before) old new)
 
+-- A payload after so many words became others, for which its checksum is updated. If the words are
+-- the same, the payload stays.
+abbrev pub UpdatesIfOther : ℕ → Reach → ℕ → List ℕ → List ℕ → List ℕ → List ℕ → Type 0
+UpdatesIfOther words reach number old new before after = ((old ≡ new) × (after ≡ before))
+    ⊎ ((old ≢ new) × UpdatesPayload reach words number old new before after)
+
+-- a payload after a change of the source, for which its checksum is updated
+abbrev pub UpdatesForSourceIpv4 : List ℕ → IpSlice → Ipv4Header → Reach → List ℕ → Type 0
+UpdatesForSourceIpv4 source slice header reach payload =
+    UpdatesPayload reach 2 slice.upper header.source source slice.payload.now payload
+
+-- a payload after a change of the destination of its header, and so of the final destination, which
+-- a source route can keep the same
+pub record UpdatesForDestinationIpv4 (destination : List ℕ) (slice : IpSlice) (header : Ipv4Header)
+    (reach : Reach) (payload : List ℕ) : Type 0 where
+  pub old : List ℕ
+  pub new : List ℕ
+  pub goes_to_old : GoesToIpv4 header.destination header.options old
+  pub goes_to_new : GoesToIpv4 destination header.options new
+  pub updated : UpdatesIfOther 2 reach slice.upper old new slice.payload.now payload
+
+-- if a payload was right for the final destination of a header, another one is right for that of
+-- the next header
+abbrev pub KeepsRightIpv4 : IpSlice → Ipv4Header → Ipv4Header → List ℕ → Type 0
+KeepsRightIpv4 slice header next payload = (old new : List ℕ)
+    → GoesToIpv4 header.destination header.options old
+    → GoesToIpv4 next.destination next.options new
+    → IsVerdictIpv4 header.source old slice.upper slice.payload.now Right
+    → IsVerdictIpv4 next.source new slice.upper payload Right
+
 -- An IPv4 packet has another address, at an offset in its header, and its two checksums are updated
 -- for it. What the link added after the packet stays.
-pub record ReaddressesIpv4 (offset : ℕ) (address before after : List ℕ) (reach : Reach)
-    : Type 0 where
+pub record ReaddressesIpv4 (Updates : IpSlice → Ipv4Header → Reach → List ℕ → Type 0)
+    (offset : ℕ) (address before after : List ℕ) (reach : Reach) : Type 0 where
   pub slice : IpSlice
   pub parts : IsIpPacket before slice
   pub version : version_in slice.header ≡ 4
@@ -147,15 +177,18 @@ pub record ReaddressesIpv4 (offset : ℕ) (address before after : List ℕ) (rea
   pub becomes : BecomesPacketOf (header_bytes slice.header) front next []
   -- the payload is another one, or the same
   pub payload : List ℕ
-  pub updated : UpdatesPayload reach 2 slice.upper
-      (slice_range (header_bytes slice.header) offset (offset + 4)) address slice.payload.now
-      payload
+  pub updated : Updates slice header reach payload
   pub changed : after ≡ front ++ (payload ++ trailer)
   -- the checksum of a payload that is no later fragment is right if it was before
-  pub keeps_right : slice.is_later_fragment ≡ false
-      → IsVerdictIpv4 (slice_range (header_bytes slice.header) 12 16)
-      (slice_range (header_bytes slice.header) 16 20) slice.upper slice.payload.now Right
-      → IsVerdictIpv4 (slice_range front 12 16) (slice_range front 16 20) slice.upper payload Right
+  pub keeps_right : slice.is_later_fragment ≡ false → KeepsRightIpv4 slice header next payload
+
+-- a packet of IPv4 has another source; or another destination
+abbrev pub HasOtherSourceIpv4 : List ℕ → List ℕ → List ℕ → Reach → Type 0
+HasOtherSourceIpv4 source = ReaddressesIpv4 (UpdatesForSourceIpv4 source) 12 source
+
+abbrev pub HasOtherDestinationIpv4 : List ℕ → List ℕ → List ℕ → Reach → Type 0
+HasOtherDestinationIpv4 destination =
+    ReaddressesIpv4 (UpdatesForDestinationIpv4 destination) 16 destination
 
 -- an IPv6 packet with this header, cut at its length field and after its headers
 pub record CutsIpv6 (packet : List ℕ) (header : Ipv6Header) (cut : Cut) : Type 0 where
@@ -172,8 +205,8 @@ pub record CutsIpv6 (packet : List ℕ) (header : Ipv6Header) (cut : Cut) : Type
       ≡ header_bytes slice.header ++ slice.extensions.now ++ (slice.payload.now ++ trailer)
 
 -- a payload after a change of the source, for which its checksum is updated
-abbrev pub UpdatesForSource : List ℕ → IpSlice → Ipv6Header → Reach → List ℕ → Type 0
-UpdatesForSource source slice header reach payload =
+abbrev pub UpdatesForSourceIpv6 : List ℕ → IpSlice → Ipv6Header → Reach → List ℕ → Type 0
+UpdatesForSourceIpv6 source slice header reach payload =
     UpdatesPayload reach 8 slice.upper header.source source slice.payload.now payload
 
 -- a payload after a change of the final destination, for which its checksum is updated; it stays if
@@ -181,26 +214,25 @@ UpdatesForSource source slice header reach payload =
 abbrev pub UpdatesForFinal : Reach → ℕ → Option (List ℕ) → Option (List ℕ) → List ℕ → List ℕ
     → Type 0
 UpdatesForFinal reach number (Some old) (Some new) before after =
-    ((old ≡ new) × (after ≡ before))
-    ⊎ ((old ≢ new) × UpdatesPayload reach 8 number old new before after)
+    UpdatesIfOther 8 reach number old new before after
 UpdatesForFinal reach number old new before after = after ≡ before
 
 -- a payload after a change of the destination of its header, and so of the final destination, which
 -- a routing header can keep the same
-pub record UpdatesForDestination (destination : List ℕ) (slice : IpSlice) (header : Ipv6Header)
+pub record UpdatesForDestinationIpv6 (destination : List ℕ) (slice : IpSlice) (header : Ipv6Header)
     (reach : Reach) (payload : List ℕ) : Type 0 where
   pub old : Option (List ℕ)
   pub new : Option (List ℕ)
-  pub goes_to_old : GoesTo header.destination header.next_header slice.extensions.now old
-  pub goes_to_new : GoesTo destination header.next_header slice.extensions.now new
+  pub goes_to_old : GoesToIpv6 header.destination header.next_header slice.extensions.now old
+  pub goes_to_new : GoesToIpv6 destination header.next_header slice.extensions.now new
   pub updated : UpdatesForFinal reach slice.upper old new slice.payload.now payload
 
 -- if a payload was right for the final destination of a header, another one is right for that of
 -- the next header, before the same extension headers
 abbrev pub KeepsRightIpv6 : IpSlice → Ipv6Header → Ipv6Header → List ℕ → Type 0
 KeepsRightIpv6 slice header next payload = (old new : Option (List ℕ))
-    → GoesTo header.destination header.next_header slice.extensions.now old
-    → GoesTo next.destination next.next_header slice.extensions.now new
+    → GoesToIpv6 header.destination header.next_header slice.extensions.now old
+    → GoesToIpv6 next.destination next.next_header slice.extensions.now new
     → IsVerdictTo header.source old slice.upper slice.payload.now Right
     → IsVerdictTo next.source new slice.upper payload Right
 
@@ -228,12 +260,12 @@ pub record ReaddressesIpv6 (Updates : IpSlice → Ipv6Header → Reach → List 
       → KeepsRightIpv6 slice header (readdressed header) payload
 
 -- a packet of IPv6 has another source; or another destination
-abbrev pub HasOtherSource : List ℕ → List ℕ → List ℕ → Reach → Type 0
-HasOtherSource source =
-    ReaddressesIpv6 (UpdatesForSource source) (λ h. record h { source = source })
+abbrev pub HasOtherSourceIpv6 : List ℕ → List ℕ → List ℕ → Reach → Type 0
+HasOtherSourceIpv6 source =
+    ReaddressesIpv6 (UpdatesForSourceIpv6 source) (λ h. record h { source = source })
 
-abbrev pub HasOtherDestination : List ℕ → List ℕ → List ℕ → Reach → Type 0
-HasOtherDestination destination = ReaddressesIpv6 (UpdatesForDestination destination)
+abbrev pub HasOtherDestinationIpv6 : List ℕ → List ℕ → List ℕ → Reach → Type 0
+HasOtherDestinationIpv6 destination = ReaddressesIpv6 (UpdatesForDestinationIpv6 destination)
     (λ h. record h { destination = destination })
 
 -- a word of two bytes, from an offset on

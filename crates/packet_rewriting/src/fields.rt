@@ -12,14 +12,16 @@ ghost use Rattle.etherparse.specs.Ipv6Header.{IsIpv6Layout};
 ghost use Rattle.etherparse.specs.Reading.{BeginsWith, too_short_error};
 ghost use Rattle.etherparse.specs.WordSums.{network_order_word_sum};
 ghost use Rattle.etherparse.specs.HeaderChecksum.{with_field_and_checksum};
-ghost use Rattle.packet_parts.specs.FinalDestination.{GoesTo};
+ghost use Rattle.packet_parts.specs.FinalDestination.{GoesToIpv6};
 ghost use Rattle.packet_parts.specs.IpSlice.{header_len_of};
-ghost use Rattle.packet_rewriting.specs.Fields.{CutsIpv4, CutsIpv6, EndsInUpper, ReaddressesIpv4};
-ghost use Rattle.packet_rewriting.specs.Fields.{HasOtherDestination, HasOtherSource, Reaches};
+ghost use Rattle.packet_rewriting.specs.Fields.{CutsIpv4, CutsIpv6, EndsInUpper, Reaches};
+ghost use Rattle.packet_rewriting.specs.Fields.{HasOtherDestinationIpv4, HasOtherDestinationIpv6};
+ghost use Rattle.packet_rewriting.specs.Fields.{HasOtherSourceIpv4, HasOtherSourceIpv6};
 ghost use Rattle.packet_rewriting.specs.Fields.{ChangesPort, CutsAtPorts, HasOtherDscp};
 ghost use Rattle.packet_rewriting.specs.Fields.{HasOtherEcn, MarksIpv4, MarksIpv6};
 ghost use Rattle.packet_rewriting.specs.Fields.{RefusesAddress, RefusesMark, RefusesPort};
-ghost use Rattle.packet_rewriting.specs.Fields.{UpdatesForFinal, UpdatesPayload, UpdatesUpper};
+ghost use Rattle.packet_rewriting.specs.Fields.{UpdatesForFinal, UpdatesIfOther, UpdatesPayload};
+ghost use Rattle.packet_rewriting.specs.Fields.{UpdatesUpper};
 ghost use Rattle.packet_rewriting.specs.Fields.{covers_addresses};
 ghost use Rattle.packet_rewriting.specs.Fields.{has_ports, least_len, rewrite_error_text};
 ghost use Rattle.packet_rewriting.specs.Fields.{text_in_any_style, updated_upper, with_port};
@@ -35,7 +37,7 @@ use etherparse::checksum::{
 use etherparse::err::{Layer, LenError};
 use etherparse::{IpDscp, IpEcn, IpNumber, Ipv4Header, Ipv6Header, LenSource};
 use etherparse_transport::{TcpHeaderSlice, UdpHeader};
-use packet_parts::final_destination::final_destination;
+use packet_parts::final_destination::{final_destination_ipv4, final_destination_ipv6};
 use packet_parts::ip_slice::{IpHeaderSlice, IpSlice, IpSliceError};
 use std::fmt;
 
@@ -82,7 +84,7 @@ impl fmt::Display for RewriteError {
 #[derive(Clone, Copy, Debug, PartialEq, Eq)]
 pub enum Reach {
     /// Into the header of UDP, TCP or, over IPv6, ICMPv6, whose checksum is updated too, but where
-    /// [`set_destination_ipv6`] says that it stays.
+    /// [`set_destination_ipv4`] or [`set_destination_ipv6`] says that it stays.
     Upper,
     /// It ends with the IP header: the payload is a later fragment. No checksum in it is updated:
     /// the one that covers the address is in the first fragment, but that of TCP over IPv4 in a
@@ -119,7 +121,7 @@ pub enum Reach {
 /// assert!(rt; packet[26..28] == [0xdf, 0x8a]);
 /// ```
 pub fn set_source_ipv4(packet: &mut [u8], source: [u8; 4]) -> Result<Reach, RewriteError>
-    ensures changed { IfOk result (ReaddressesIpv4 12 source packet.old packet.new) }
+    ensures changed { IfOk result (HasOtherSourceIpv4 source packet.old packet.new) }
     ensures refused { IfErr result (RefusesAddress 4 packet.old) }
     ensures unchanged { OnErr result (packet.new ≡ packet.old) }
 {
@@ -136,14 +138,15 @@ pub fn set_source_ipv4(packet: &mut [u8], source: [u8; 4]) -> Result<Reach, Rewr
 }
 
 /// Gives an IPv4 packet another destination address in place, bytes 16 to 19, as
-/// [`set_source_ipv4`] gives it another source address. If a source route option has addresses left,
-/// the checksum covers the last of them (RFC 791 section 3.1), and a right one becomes wrong.
+/// [`set_source_ipv4`] gives it another source address. The checksum of UDP or TCP covers the
+/// [`final_destination_ipv4`]: it is updated if that becomes another one, and stays if a source route
+/// option keeps it the same.
 ///
 /// # Errors
 ///
 /// Those of [`set_source_ipv4`]. The packet is then unchanged.
 pub fn set_destination_ipv4(packet: &mut [u8], destination: [u8; 4]) -> Result<Reach, RewriteError>
-    ensures changed { IfOk result (ReaddressesIpv4 16 destination packet.old packet.new) }
+    ensures changed { IfOk result (HasOtherDestinationIpv4 destination packet.old packet.new) }
     ensures refused { IfErr result (RefusesAddress 4 packet.old) }
     ensures unchanged { OnErr result (packet.new ≡ packet.old) }
 {
@@ -151,11 +154,12 @@ pub fn set_destination_ipv4(packet: &mut [u8], destination: [u8; 4]) -> Result<R
         Ok(found) => found,
         Err(e) => return Err(e),
     };
-    let old = header.destination;
+    let old = final_destination_ipv4(header.destination, header.options.as_slice());
     header.set_destination(destination);
+    let new = final_destination_ipv4(destination, header.options.as_slice());
     let (front, rest) = packet.split_at_mut(parts.header_len);
     put_address_ipv4(front, 16, destination, header.header_checksum);
-    update_for_ipv4(&mut rest[..parts.payload_len], &parts, old, destination);
+    update_if_other_ipv4(&mut rest[..parts.payload_len], &parts, old, new);
     Ok(parts.reach)
 }
 
@@ -188,7 +192,7 @@ pub fn set_destination_ipv4(packet: &mut [u8], destination: [u8; 4]) -> Result<R
 /// assert!(rt; packet[46..48] == [0xb8, 0x45]);
 /// ```
 pub fn set_source_ipv6(packet: &mut [u8], source: [u8; 16]) -> Result<Reach, RewriteError>
-    ensures changed { IfOk result (HasOtherSource source packet.old packet.new) }
+    ensures changed { IfOk result (HasOtherSourceIpv6 source packet.old packet.new) }
     ensures refused { IfErr result (RefusesAddress 6 packet.old) }
     ensures unchanged { OnErr result (packet.new ≡ packet.old) }
 {
@@ -206,14 +210,14 @@ pub fn set_source_ipv6(packet: &mut [u8], source: [u8; 16]) -> Result<Reach, Rew
 
 /// Gives an IPv6 packet another destination address in place, bytes 24 to 39, as
 /// [`set_source_ipv6`] gives it another source address. In a packet with a routing header that has
-/// segments left, the checksum covers the [`final_destination`] (RFC 8200 section 8.1): it is
+/// segments left, the checksum covers the [`final_destination_ipv6`] (RFC 8200 section 8.1): it is
 /// updated if that becomes another one, and stays if that is the same or unknown.
 ///
 /// # Errors
 ///
 /// Those of [`set_source_ipv6`]. The packet is then unchanged.
 pub fn set_destination_ipv6(packet: &mut [u8], destination: [u8; 16]) -> Result<Reach, RewriteError>
-    ensures changed { IfOk result (HasOtherDestination destination packet.old packet.new) }
+    ensures changed { IfOk result (HasOtherDestinationIpv6 destination packet.old packet.new) }
     ensures refused { IfErr result (RefusesAddress 6 packet.old) }
     ensures unchanged { OnErr result (packet.new ≡ packet.old) }
 {
@@ -412,11 +416,11 @@ fn ipv6_parts(packet: &[u8]) -> Result<(Ipv6Header, Cut), RewriteError>
 // headers.
 fn final_in(header: &Ipv6Header, front: &[u8]) -> Option<[u8; 16]>
     requires enough { 40 ≤ length front.now }
-    ensures goes_to { GoesTo header.now.destination header.now.next_header (drop 40 front.now)
+    ensures goes_to { GoesToIpv6 header.now.destination header.now.next_header (drop 40 front.now)
         result }
 {
     let extensions = &front[Ipv6Header::LEN..];
-    final_destination(destination_in(header), header.next_header, extensions)
+    final_destination_ipv6(destination_in(header), header.next_header, extensions)
 }
 
 // Updates the checksum of a payload if the final destination, known before and after, is another.
@@ -425,12 +429,9 @@ fn update_for_final(payload: &mut [u8], cut: &Cut, old: Option<[u8; 16]>, new: O
         checksum_place cut.now.upper + 2 ≤ length payload.now }
     ensures updated { UpdatesForFinal cut.now.reach cut.now.upper old new payload.old payload.new }
 {
-    if let Some(old) = old {
-        if let Some(new) = new {
-            if old != new {
-                update_for_ipv6(payload, cut, old, new);
-            }
-        }
+    match (old, new) {
+        (Some(old), Some(new)) if old != new => update_for_ipv6(payload, cut, old, new),
+        _ => {}
     }
 }
 
@@ -510,6 +511,17 @@ fn put_address_ipv4(front: &mut [u8], offset: usize, address: [u8; 4], checksum:
 {
     put(front, offset, &address);
     put(front, 10, &checksum.to_be_bytes());
+}
+
+// Updates the checksum of a payload if the final destination is another.
+fn update_if_other_ipv4(payload: &mut [u8], cut: &Cut, old: [u8; 4], new: [u8; 4])
+    requires enough { cut.now.reach ≡ reaching.Upper →
+        checksum_place cut.now.upper + 2 ≤ length payload.now }
+    ensures updated { UpdatesIfOther 2 cut.now.reach cut.now.upper old new payload.old payload.new }
+{
+    if old != new {
+        update_for_ipv4(payload, cut, old, new);
+    }
 }
 
 // Updates the checksum of a payload for another IPv4 address, if the change reaches it.

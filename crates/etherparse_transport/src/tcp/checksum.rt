@@ -18,7 +18,8 @@ use etherparse::{Ipv4HeaderSlice, Ipv6HeaderSlice};
 
 impl<'a> TcpHeaderSlice<'a> {
     /// The checksum over IPv4 that belongs into the header before this payload, whatever bytes 16
-    /// and 17 have; the addresses are those of the IP header. It is never 65535.
+    /// and 17 have; the addresses are those of the IP header. It is never 65535. In a packet with a
+    /// source route, the destination has to be the last one (RFC 791 section 3.1).
     ///
     /// # Errors
     ///

@@ -18,7 +18,8 @@ use etherparse::{Ipv4Header, Ipv6Header};
 
 impl TcpHeader {
     /// The checksum over IPv4 that belongs into this header before this payload, whatever its field
-    /// `checksum` has; the addresses are those of the IP header. It is never 65535.
+    /// `checksum` has; the addresses are those of the IP header. It is never 65535. In a packet with
+    /// a source route, the destination has to be the last one (RFC 791 section 3.1).
     ///
     /// # Errors
     ///

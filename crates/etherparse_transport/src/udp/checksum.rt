@@ -56,7 +56,8 @@ impl UdpHeader {
     }
 
     /// A header for this payload, with its checksum over IPv4: the addresses are those of the IP
-    /// header.
+    /// header. In a packet with a source route, the destination has to be the last one (RFC 791
+    /// section 3.1).
     ///
     /// # Errors
     ///
@@ -143,7 +144,8 @@ impl UdpHeader {
     }
 
     /// The checksum over IPv4 that belongs into this header before this payload, whatever its field
-    /// `checksum` has; the addresses are those of the IP header. It is never 0.
+    /// `checksum` has; the addresses are those of the IP header. It is never 0. In a packet with a
+    /// source route, the destination has to be the last one (RFC 791 section 3.1).
     ///
     /// The sum has the field `length` as it stands: set it first, to 8 and the payload's length.
     /// Otherwise no receiver finds the checksum of this datagram right, but by chance.

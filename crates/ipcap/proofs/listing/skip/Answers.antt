@@ -40,7 +40,8 @@ turns-preserved g c =
       takes = takes_then _ _ _ _ _ (takes_both _ _ _ _ _ _ was.takes c.pass.ensures.takes) c.in_ok-fill.ensures.takes;
       many = many_more c.args.len c.turns.left _ c.unread-bytes.result.now was.taken (unread c.turns.input) was.many was.within c.unread-bytes.ensures.value c.min-passed.ensures;
       last = last_then was.taken (take c.min-passed.result (unread c.turns.input)) c.turns.last _ was.last (rw c.unread-bytes.ensures.value at c.last_four-last.ensures.value);
-      prints = rw (kept_both c.args.keeps was.taken (take c.min-passed.result (unread c.turns.input))) (prints_both _ _ _ _ _ _ was.prints (rw c.unread-bytes.ensures.value at c.in_ok-copy_if.ensures.prints));
+      prints = rw (kept_both c.args.keeps was.taken (take c.min-passed.result (unread c.turns.input)))
+          (prints_then _ _ _ _ _ (prints_both _ _ _ _ _ _ was.prints (rw c.unread-bytes.ensures.value at c.in_ok-copy_if.ensures.prints)) c.in_ok-hand_over.ensures.kept);
       unfailed = λ x. was.unfailed (subst g.R.Source.has_failed c.pass.ensures.source (c.in_ok-fill.ensures.unfailed x));
     }
 
@@ -77,6 +78,29 @@ returns-in_err-copy_if-clause-lacks g c =
       cause = failed.failed.1;
     })
 
+pub returns-in_err-hand_over-clause-lacks : goal.returns-in_err-hand_over-clause-lacks
+returns-in_err-hand_over-clause-lacks g c =
+    let was = c.turns.invariant in
+    let some = take c.min-passed.result (unread c.turns.input) in
+    let many = many_more c.args.len c.turns.left _ c.unread-bytes.result.now was.taken (unread c.turns.input) was.many was.within c.unread-bytes.ensures.value c.min-passed.ensures in
+    let over = passed_all c.unread-bytes.result.now (unread c.turns.input) (unread c.pass.new.self) c.turns.left _ c.unread-bytes.ensures.value c.min-passed.ensures c.pass.ensures.rest (omega (arith, c.if-left-eq0.false)) in
+    let takes = takes_both _ _ _ _ _ _ was.takes c.pass.ensures.takes in
+    let p = err_from_is_err_and c.from_residual-in_err-hand_over.result c.from_residual-in_err-hand_over.ensures.1 in
+    let len : length ((was.taken ++ some) ++ []) ≡ length (was.taken ++ some) = ap length (append-nil (was.taken ++ some)) in
+    rw (p.1, p.2, c.in_err-hand_over.ensures.failed.0) (record {
+      got = takes.got;
+      reads = takes.reads;
+      first = was.taken ++ some;
+      piece = [];
+      rest = [];
+      whole = grind (arith, append-nil, takes.takes, over);
+      within = omega (arith, len, many, was.within);
+      all = λ few. refl;
+      prints = rw (kept_both c.args.keeps was.taken some)
+          (prints_then _ _ _ _ _ (prints_both _ _ _ _ _ _ was.prints (rw c.unread-bytes.ensures.value at c.in_ok-copy_if.ensures.prints)) c.in_err-hand_over.ensures.kept);
+      cause = c.in_err-hand_over.ensures.failed.1;
+    })
+
 pub returns-in_err-fill-clause-lacks : goal.returns-in_err-fill-clause-lacks
 returns-in_err-fill-clause-lacks g c =
     let was = c.turns.invariant in
@@ -95,7 +119,8 @@ returns-in_err-fill-clause-lacks g c =
       whole = grind (arith, append-nil, takes.takes, over, c.in_err-fill.ensures.unread);
       within = omega (arith, len, many, was.within);
       all = λ few. refl;
-      prints = rw (kept_both c.args.keeps was.taken some) (prints_both _ _ _ _ _ _ was.prints (rw c.unread-bytes.ensures.value at c.in_ok-copy_if.ensures.prints));
+      prints = rw (kept_both c.args.keeps was.taken some)
+          (prints_then _ _ _ _ _ (prints_both _ _ _ _ _ _ was.prints (rw c.unread-bytes.ensures.value at c.in_ok-copy_if.ensures.prints)) c.in_ok-hand_over.ensures.kept);
       cause = (omega (arith, len, many, was.within, c.if-left-eq0.false), refl, refl, c.in_err-fill.ensures.failed.1);
     })
 
@@ -111,5 +136,6 @@ returns-then-not-branch-clause-skips g c =
       within = omega arith;
       all = λ few. grind (arith, over, c.in_ok-fill.ensures.same);
       is_last = last_then was.taken (take c.min-passed.result (unread c.turns.input)) c.turns.last _ was.last (rw c.unread-bytes.ensures.value at c.last_four-last.ensures.value);
-      prints = rw (kept_both c.args.keeps was.taken (take c.min-passed.result (unread c.turns.input))) (prints_both _ _ _ _ _ _ was.prints (rw c.unread-bytes.ensures.value at c.in_ok-copy_if.ensures.prints));
+      prints = rw (kept_both c.args.keeps was.taken (take c.min-passed.result (unread c.turns.input)))
+          (prints_then _ _ _ _ _ (prints_both _ _ _ _ _ _ was.prints (rw c.unread-bytes.ensures.value at c.in_ok-copy_if.ensures.prints)) c.in_ok-hand_over.ensures.kept);
     }

@@ -4,5 +4,5 @@ use Rattle.packet_rewriting.proofs.fields.final_in.Goals as goal
 
 pub returns : goal.returns
 returns c = record {
-  goes_to = rw (c.destination_in.ensures.value, take_rest c.args.front.now 40, ap (λ h. h.next_header) c.header.view_is) at c.final_destination.ensures.goes_to;
+  goes_to = rw (c.destination_in.ensures.value, take_rest c.args.front.now 40, ap (λ h. h.next_header) c.header.view_is) at c.final_destination_ipv6.ensures.goes_to;
 }

@@ -2,7 +2,7 @@ use Rattle.std.proofs.Common.{arith, drop, refl, subst}
 use Rattle.etherparse.specs.Ipv6Header.{IsIpv6Layout}
 use Rattle.etherparse.specs.Reading.{BeginsWith}
 use Rattle.packet_rewriting.proofs.KeptIpv6.{destination_kept, enough_ipv6, headers_within_ipv6, long_ipv6, payload_len_ipv6, payload_within_ipv6, readdressed_ipv6, updated_destination}
-use Rattle.packet_rewriting.specs.Fields.{UpdatesForDestination}
+use Rattle.packet_rewriting.specs.Fields.{UpdatesForDestinationIpv6}
 use Rattle.packet_rewriting.proofs.fields.set_destination_ipv6.Goals as goal
 
 pub returns-clause-changed : goal.returns-clause-changed
@@ -11,7 +11,7 @@ returns-clause-changed c =
     let cuts = c.in-Ok.ensures.found in
     let goes_new = rw c.with_destination-next.ensures.value at c.final_in-new.ensures.goes_to in
     let updates = updated_destination cuts c.args.destination _ _ _ _ _ split.ensures.front split.ensures.back c.final_in-old.ensures.goes_to goes_new c.update_for_final.ensures.updated in
-    readdressed_ipv6 cuts (UpdatesForDestination c.args.destination) (λ h. record h { destination = c.args.destination }) _ split.result.0.now c.put_ipv6.new.packet split.result.1.now c.update_for_final.new.payload
+    readdressed_ipv6 cuts (UpdatesForDestinationIpv6 c.args.destination) (λ h. record h { destination = c.args.destination }) _ split.result.0.now c.put_ipv6.new.packet split.result.1.now c.update_for_final.new.payload
     split.ensures.front split.ensures.back
     (subst (λ h. BeginsWith IsIpv6Layout c.put_ipv6.new.packet h (drop 40 split.result.0.now)) c.with_destination-next.ensures.value c.put_ipv6.ensures.written) updates refl
     (destination_kept cuts c.args.destination c.update_for_final.new.payload (grind arith) updates)

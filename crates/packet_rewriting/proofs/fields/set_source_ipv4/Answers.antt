@@ -1,6 +1,6 @@
 use Rattle.std.proofs.Common.{ap, arith, refl, sym}
-use Rattle.etherparse.specs.WordSums.{network_order_word_sum}
-use Rattle.packet_rewriting.proofs.Readdressed.{enough_for, headers_within_ipv4, long_ipv4, payload_len_ipv4, payload_within_ipv4, readdressed}
+use Rattle.packet_rewriting.specs.Fields.{UpdatesForSourceIpv4}
+use Rattle.packet_rewriting.proofs.Readdressed.{enough_for, headers_within_ipv4, long_ipv4, payload_len_ipv4, payload_within_ipv4, readdressed, source_kept_ipv4, updated_source_ipv4}
 use Rattle.packet_rewriting.proofs.fields.set_source_ipv4.Goals as goal
 
 pub returns-clause-changed : goal.returns-clause-changed
@@ -8,9 +8,12 @@ returns-clause-changed c =
     let cuts = c.in-Ok.ensures.found in
     let split = c.split_at_mut-front in
     let set = c.set_source.ensures.set in
-    readdressed cuts 12 c.in-Ok.found.0.source c.args.source _ split.result.0.now c.put_address_ipv4.new.front split.result.1.now c.update_for_ipv4.new.payload
-    c.set_source.new.self (network_order_word_sum c.in-Ok.found.0.destination) split.ensures.front split.ensures.back (sym cuts.layout.layout.source) (ap (λ h. h.header_checksum) set)
-    c.set_source.ensures.in_place c.put_address_ipv4.ensures.written c.update_for_ipv4.ensures.updated refl (omega arith) (omega (arith, ap (λ h. network_order_word_sum h.source) set, ap (λ h. network_order_word_sum h.destination) set))
+    let payload = c.update_for_ipv4.new.payload in
+    let updates = updated_source_ipv4 cuts c.args.source split.result.1.now payload split.ensures.back c.update_for_ipv4.ensures.updated in
+    readdressed cuts (UpdatesForSourceIpv4 c.args.source) 12 c.in-Ok.found.0.source c.args.source _ split.result.0.now c.put_address_ipv4.new.front split.result.1.now payload
+    c.set_source.new.self split.ensures.front split.ensures.back (sym cuts.layout.layout.source) (ap (λ h. h.header_checksum) set)
+    c.set_source.ensures.in_place c.put_address_ipv4.ensures.written updates refl
+    (source_kept_ipv4 cuts c.set_source.new.self c.args.source payload (grind arith) (ap (λ h. h.source) set) (ap (λ h. h.destination) set) (ap (λ h. h.options) set) updates)
 
 pub split_at_mut-front-requires : goal.split_at_mut-front-requires
 split_at_mut-front-requires c = headers_within_ipv4 c.in-Ok.ensures.found

@@ -1,9 +1,9 @@
 use Rattle.std.proofs.Common.{◌≤◌, ◌∙◌, arith, length, ◌-◌, length-take, refl, sym}
 use Rattle.std.proofs.lemmas.Bool.{false≢true}
 use Rattle.etherparse.specs.ExtensionHeaderChain.{required_len_of}
-use Rattle.packet_parts.proofs.FinalDestinations.{as_passed, at_least_8, goes_once}
+use Rattle.packet_parts.proofs.FinalDestinations.{as_passed, at_least_8, goes_once_ipv6}
 use Rattle.packet_parts.specs.FinalDestination.{arrives, is_incomplete, loses_track, passes}
-use Rattle.packet_parts.proofs.final_destination.final_destination.Goals as goal
+use Rattle.packet_parts.proofs.final_destination.final_destination_ipv6.Goals as goal
 
 pub returns-then-not-is_skippable_header_extension-clause-goes_to :
     goal.returns-then-not-is_skippable_header_extension-clause-goes_to
@@ -13,7 +13,7 @@ returns-then-not-is_skippable_header_extension-clause-goes_to c = c.headers.inva
 pub returns-then-not-is_skippable_header_extension-clause-only :
     goal.returns-then-not-is_skippable_header_extension-clause-only
 returns-then-not-is_skippable_header_extension-clause-only c = λ other goes.
-    goes_once _ _ _ _ _ goes (returns-then-not-is_skippable_header_extension-clause-goes_to c)
+    goes_once_ipv6 _ _ _ _ _ goes (returns-then-not-is_skippable_header_extension-clause-goes_to c)
 
 pub returns-in-Err-clause-goes_to : goal.returns-in-Err-clause-goes_to
 returns-in-Err-clause-goes_to c =
@@ -23,7 +23,7 @@ returns-in-Err-clause-goes_to c =
     c.headers.invariant _ (is_incomplete skippable (omega (arith, cut)))
 
 pub returns-in-Err-clause-only : goal.returns-in-Err-clause-only
-returns-in-Err-clause-only c = λ other goes. goes_once _ _ _ _ _ goes (returns-in-Err-clause-goes_to c)
+returns-in-Err-clause-only c = λ other goes. goes_once_ipv6 _ _ _ _ _ goes (returns-in-Err-clause-goes_to c)
 
 pub after_header-requires : goal.after_header-requires
 after_header-requires c =
@@ -40,7 +40,7 @@ returns-in-None-clause-goes_to c =
     c.headers.invariant _ (loses_track skippable enough (rw (sym passed.2) (sym c.in-None.ensures.value)))
 
 pub returns-in-None-clause-only : goal.returns-in-None-clause-only
-returns-in-None-clause-only c = λ other goes. goes_once _ _ _ _ _ goes (returns-in-None-clause-goes_to c)
+returns-in-None-clause-only c = λ other goes. goes_once_ipv6 _ _ _ _ _ goes (returns-in-None-clause-goes_to c)
 
 pub headers-preserved : goal.headers-preserved
 headers-preserved c = λ final goes.
