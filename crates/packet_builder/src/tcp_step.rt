@@ -227,7 +227,9 @@ fn header_over(ip: &IpHeader, tcp: TcpHeader, payload: &[u8]) -> TcpHeader
     let checksum = match ip {
         IpHeader::Ipv4(ip) => {
             let last = final_destination_ipv4(ip.destination, ip.options.as_slice());
-            header.calc_checksum_ipv4_raw(ip.source, last, payload).unwrap()
+            header
+                .calc_checksum_ipv4_raw(ip.source, last, payload)
+                .unwrap()
         }
         IpHeader::Ipv6(ip) => header.calc_checksum_ipv6(ip, payload).unwrap(),
     };

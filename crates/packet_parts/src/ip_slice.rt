@@ -244,7 +244,11 @@ impl<'a> IpSlice<'a> {
                 ipv4_verdict(view.source(), last, self.upper, self.payload)
             }
             (None, IpHeaderSlice::Ipv6(view)) => {
-                match final_destination_ipv6(view.destination(), view.next_header(), self.extensions) {
+                match final_destination_ipv6(
+                    view.destination(),
+                    view.next_header(),
+                    self.extensions,
+                ) {
                     Some(last) => ipv6_verdict(view.source(), last, self.upper, self.payload),
                     None => verdict_to_unknown(self.upper, self.payload),
                 }

@@ -197,9 +197,9 @@ destination_kept_ipv4 {header = header} {cut = cut} cuts next destination payloa
     let len_new = goes_len_ipv4 destination header.options updates.new len updates.goes_to_new in
     let right_old = rw was at right in
     rw (stays, will) (elim updates.updated [
-      inl (same, kept) ↦ rw (sym same, kept) right_old
-    | inr (other, updated) ↦ reach_kept cut.reach cuts.slice header.source updates.old header.source updates.new updates.old updates.new payload (network_order_word_sum header.source)
-        cuts.version cuts.reaches now lens.0 len_old lens.0 len_new (omega arith) (omega arith) updated right_old
+      | inl (same, kept) ↦ rw (sym same, kept) right_old
+      | inr (other, updated) ↦ reach_kept cut.reach cuts.slice header.source updates.old header.source updates.new updates.old updates.new payload (network_order_word_sum header.source)
+          cuts.version cuts.reaches now lens.0 len_old lens.0 len_new (omega arith) (omega arith) updated right_old
     ])
 
 -- the payload that is updated is that of the parts
