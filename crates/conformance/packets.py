@@ -310,12 +310,16 @@ def updated(checksum, old, new):
 
 
 def translate(parts, checksum):
-    """RFC 3022: another source and another destination, and both checksums"""
+    """RFC 3022: another source and another destination, and both checksums; the upper layer's is
+    for the end of a source route"""
     made = dict(source=SOURCE, destination=DESTINATION, header_checksum=parts['header_checksum'],
                 checksum=checksum)
     for field in 'source', 'destination':
         for name in 'header_checksum', 'checksum':
-            anew = updated(made[name], parts[field], made[field])
+            old, new = parts[field], made[field]
+            if (field, name) == ('destination', 'checksum'):
+                old, new = parts['final'], past_source_route(new, parts['options'])
+            anew = updated(made[name], old, new)
             if name == 'checksum' and parts['upper'] == 17:
                 # 0 says that there is none (RFC 768)
                 anew = (anew or 0xffff) if checksum else 0
@@ -861,8 +865,6 @@ def ask_scapy_of_translation(packet, read):
     parts, made = read['packet'], read['translated']
     name = 'tcp' if parts['upper'] == 6 else 'udp'
     after = translated(packet, read)
-    if parts['final'] != parts['destination']:
-        return
     front = parts['header_len']
     if scapy_checksum(packet[:front]) == 0:
         anew = scapy_checksum(after[:10] + bytes(2) + after[12:front])
@@ -874,7 +876,8 @@ def ask_scapy_of_translation(packet, read):
         return
     end = front + (read['udp']['length'] if name == 'udp' else len(parts['payload']))
     place = front + (6 if name == 'udp' else 16)
-    whole = IP(src=text_of(made['source']), dst=text_of(made['destination']))
+    whole = IP(src=text_of(made['source']),
+               dst=text_of(past_source_route(made['destination'], parts['options'])))
     if read[name]['right']:
         anew = in4_chksum(parts['upper'], whole,
                           after[front:place] + bytes(2) + after[place + 2:end])
@@ -1050,8 +1053,7 @@ def made_of(packet, read):
         else:
             yield 'reply', in_ipv6(message, 58, source=parts['destination'],
                                    destination=parts['source']), {'icmpv6.checksum.status': True}
-    if ('translated' in read and parts['final'] == parts['destination']
-            and not has_odd_route(parts['options'])):
+    if 'translated' in read and not has_odd_route(parts['options']):
         name = 'tcp' if parts['upper'] == 6 else 'udp'
         expected = {'ip.checksum.status':
                     ones_complement_sum(packet[:parts['header_len']]) == 0xffff}

@@ -7,8 +7,9 @@
 //! nothing.
 //!
 //! A new destination updates a checksum for the final one (RFC 791 section 3.1, RFC 8200 section
-//! 8.1), unless a source route or a routing header keeps that, or it is unknown. Home address
-//! options, Shim6 and protocols unknown here are not looked into: a right checksum can become wrong.
+//! 8.1), unless a source route or a routing header keeps that, or it is unknown. For a new IPv6
+//! source home address options and Shim6 are not looked into, nor are protocols unknown here: a right
+//! checksum can become wrong.
 //!
 //! A checksum and a port are numbers whose high byte comes first in the packet.
 
@@ -163,7 +164,8 @@ checksums! {
     /// UDP it is never 0, which says that there is none: 0xffff stands for 0.
     ///
     /// The segment has to end where the packet's length field says, since each of its bytes counts;
-    /// but a UDP datagram ends where its own length field says: set that first.
+    /// but a UDP datagram ends where its own length field says: set that first. The destination is
+    /// the final one.
     ///
     /// ```
     /// use etherparse_proved::{rewriting::calc_checksum_ipv4, IpNumber};
@@ -190,7 +192,7 @@ checksums! {
 
     /// The checksum that a segment should have over IPv6 (RFC 8200 section 8.1), as
     /// [`calc_checksum_ipv4`] has it over IPv4: that of UDP, TCP or ICMPv6 (RFC 4443 section 2.3).
-    /// In a packet with a routing header, the destination is the final one.
+    /// The destination is the final one.
     ///
     /// # Errors
     ///

@@ -71,8 +71,7 @@ struct etherparse_checksum_answer {
  * since 0 says that there is none.
  *
  * The segment has to end where the packet's length field says; a UDP datagram ends where its own
- * length field says: set that first. In a packet with a routing header, the destination is the
- * final one.
+ * length field says: set that first. The destination is the final one.
  *
  * Errors: OTHER_PROTOCOL, INCOMPLETE, TOO_LONG. */
 struct etherparse_checksum_answer etherparse_checksum_ipv4(const uint8_t source[4],
@@ -91,9 +90,9 @@ uint32_t etherparse_set_checksum_ipv6(const uint8_t source[16], const uint8_t de
  * which says that there is none, stays 0. What comes after the packet stays.
  *
  * A new destination updates a checksum for the final one (RFC 791 section 3.1, RFC 8200 section
- * 8.1), unless a source route or a routing header keeps that, or it is unknown. Home address
- * options, Shim6 and protocols unknown here are not looked into: a right checksum can become wrong.
- */
+ * 8.1), unless a source route or a routing header keeps that, or it is unknown. For a new IPv6
+ * source home address options and Shim6 are not looked into, nor are protocols unknown here: a right
+ * checksum can become wrong. */
 
 /* How far the change of an address reaches. */
 enum {

@@ -86,7 +86,9 @@ impl UdpHeader {
     }
 
     /// Sets the checksum of a datagram over IPv4. With it the datagram sums to all ones with its
-    /// pseudo-header, and it is not 0, which says that there is none.
+    /// pseudo-header, and it is not 0, which says that there is none. On a source route, set
+    /// [`UdpHeader::calc_checksum_ipv4_raw`] with the final destination instead (RFC 791 section
+    /// 3.1).
     ///
     /// The payload may have any length, and the sum has the field `length` as it stands: set it
     /// first, to 8 and the payload's length. Otherwise no receiver finds the checksum of this
@@ -118,8 +120,9 @@ impl UdpHeader {
         self.checksum = self.checksum_over_ipv4(ip.source, ip.destination, payload);
     }
 
-    /// Sets the checksum of a datagram over IPv6, as [`UdpHeader::set_checksum_ipv4`] does. In a
-    /// packet with a routing header, the destination has to be the last one (RFC 8200 section 8.1).
+    /// Sets the checksum of a datagram over IPv6, as [`UdpHeader::set_checksum_ipv4`] does. With a
+    /// routing header, set [`UdpHeader::calc_checksum_ipv6_raw`] with the final destination instead
+    /// (RFC 8200 section 8.1).
     ///
     /// # Example
     ///

@@ -65,8 +65,7 @@ pub enum LinkSlice<'a> {
 /// A frame ends within its link header.
 #[derive(Clone, Copy, Debug, PartialEq, Eq)]
 pub struct LinkError {
-    /// The length of the link header, in bytes; if the header gives its own length, a length that
-    /// it has at least.
+    /// The length of the link header, in bytes; if the header gives its own length, a lower bound.
     pub required_len: usize,
     /// The length of the frame, in bytes.
     pub len: usize,
@@ -105,7 +104,7 @@ impl LinkType {
     }
 
     /// The length of the link header of a frame, in bytes. If the header gives its own length and
-    /// the frame ends within it, a length that it has at least.
+    /// the frame ends within it, a lower bound.
     ///
     /// # Example
     ///

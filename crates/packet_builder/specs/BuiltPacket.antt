@@ -144,7 +144,7 @@ AreHeadersBefore headers protocol len bytes = (upper : List ℕ) → length uppe
     → HasHeaders headers protocol upper (bytes ++ upper)
 
 -- the checksum of a UDP header and a payload between the source of an IP header and the final
--- destination, which an IPv4 header with a source route has in its options
+-- destination, which the options of an IPv4 header can name
 abbrev pub IsUdpChecksumOver : IpHeader → UdpHeader → List ℕ → ℕ → Type 0
 IsUdpChecksumOver (ip.Ipv4 header) udp payload checksum = (final : List ℕ)
     × GoesToIpv4 header.destination header.options final

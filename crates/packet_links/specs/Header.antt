@@ -7,8 +7,8 @@ use Rattle.packet_links.specs.declared.header.Carried.TheVariants as carried
 use Rattle.packet_links.specs.declared.header.Header.{Header}
 
 -- What follows is an IP packet: by its EtherType (RFC 894, RFC 2464 section 3), its number of PPP
--- (RFC 1332 section 2, RFC 5072 section 2) or its NLPID (RFC 2427 section 4.1, RFC 2590); or with
--- no number. The version is told by the packet itself.
+-- (RFC 1332 section 2, RFC 5072 section 2) or its NLPID (RFC 2427 section 4.1, RFC 2590); or by LLC
+-- (RFC 948), or with no number. The version is told by the packet itself.
 abbrev pub is_ip : Carried → Bool
 is_ip (carried.EtherType number) = number == 0x0800 || number == 0x86dd
 is_ip (carried.PppProtocol number) = number == 0x0021 || number == 0x0057
@@ -34,8 +34,8 @@ is_bridged place frame = has 0 place frame && has 0x80 (place + 1) frame
     && has 0xc2 (place + 2) frame && has 0 (place + 3) frame
     && (has 0x01 (place + 4) frame || has 0x07 (place + 4) frame)
 
--- SNAP at a place: three bytes name an organization, two its protocol (IEEE 802 section 9.2.2).
--- Before a bridged frame of Ethernet come so many bytes of padding. Its header is a part of SNAP,
+-- SNAP at a place: three bytes name an organization, two its protocol (IEEE 802 section 9.2.2). If
+-- that is a bridged frame of Ethernet, `padding` bytes come before it; its header is a part of SNAP,
 -- and the last two bytes of that are the EtherType.
 abbrev pub snap_header : ℕ → ℕ → List ℕ → Header
 snap_header padding place frame = if is_ether_type place frame

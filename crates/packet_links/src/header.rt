@@ -15,7 +15,7 @@ pub enum Carried {
     PppProtocol(u16),
     /// A protocol, by its NLPID (RFC 2427 section 4).
     Nlpid(u8),
-    /// An IP packet, before which no number stands.
+    /// An IP packet, by LLC `06 06 03` (RFC 948), or with no number before it.
     Ip,
     /// A protocol over LLC, by the address of its destination, the DSAP (IEEE 802.2 section 3.2).
     Llc(u8),
@@ -91,7 +91,7 @@ impl Carried {
     }
 }
 
-// SNAP at a place, with so many bytes of padding before a bridged frame.
+// SNAP at a place, with `padding` bytes before a bridged frame.
 pub(crate) fn snap_header(frame: &[u8], place: usize, padding: usize) -> Header
     requires fits { place < 2 ^ 31 }
     requires short { padding ≤ 2 }

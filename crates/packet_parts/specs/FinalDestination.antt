@@ -1,6 +1,6 @@
 -- The final destination of a packet, which its checksums cover. A source route of IPv4 and a routing
--- header of IPv6 send a packet over several stops. Until the last one the header has the address of
--- the next stop for its destination.
+-- header of IPv6 send a packet over several stops. On the way, the destination of the header is the
+-- next stop. Shim6 hides the addresses that are covered.
 use Rattle.std.specs.Prelude.{ℕ, ◌≡◌, ◌+◌, ◌-◌, ◌*◌, ◌/◌, ◌%◌, ◌<◌, ◌≤◌, ◌==◌, ◌&&◌, ◌||◌, not}
 use Rattle.std.specs.Prelude.{Bool, List, ◌++◌, drop, find, length, slice_index, slice_range, take}
 use Rattle.std.specs.Prelude.{Option, Result, Some, None, if◌then◌else◌, nat_le}
@@ -21,20 +21,20 @@ abbrev pub pointer : List ℕ → ℕ
 pointer route = slice_index route 2
 
 -- Addresses are left: the pointer is the place of one of them. Otherwise all are visited, or the
--- pointer or the length does not fit, and no node can send the packet on by this route.
+-- pointer or the length does not fit, and no node has to follow this route.
 abbrev pub has_addresses_left : List ℕ → Bool
 has_addresses_left route = (length route % 4 == 3) && ((pointer route % 4 == 0)
     && (nat_le 4 (pointer route) && nat_le (pointer route) (length route)))
 
--- The first source route in the bytes of the options, as far as these are whole, or none. A packet has
--- one at most.
+-- The first source route in the bytes of the options, as far as these are whole, or none. A packet
+-- should have one at most (RFC 1812 section 5.2.4.1).
 pub record HasFirstRoute (bytes : List ℕ) (route : Option (List ℕ)) : Type 0 where
   pub options : List (List ℕ)
   pub end : Result (List ℕ) Ipv4OptionError
   pub lists : IsOnlyIpv4Listing bytes options end
   pub first : route ≡ find is_source_route options
 
--- the destination after a source route, or none: the last of its addresses, if any are left
+-- the destination after the first source route, if there is one: its last address, if any are left
 abbrev pub after_route : List ℕ → Option (List ℕ) → List ℕ
 after_route destination (Some route) = if has_addresses_left route
     then slice_range route (length route - 4) (length route) else destination
@@ -106,8 +106,8 @@ last_address destination header =
     else (if slice_index header 2 == 3 then last_compressed destination header
     else (if slice_index header 2 == 4 then first_in_list header else None)))
 
--- a payload header of Shim6 (140): bit 7 of byte 2 is set. Its receiver puts other addresses into the
--- IPv6 header, which only the two hosts know (RFC 5533 sections 5.1 and 12.3).
+-- a payload header of Shim6 (140): bit 7 of byte 2 is set. Its receiver puts addresses that only the
+-- two hosts know into the IPv6 header (RFC 5533 section 5.2)
 abbrev pub hides_addresses : ℕ → List ℕ → Bool
 hides_addresses number header = (number == 140) && nat_le 128 (slice_index header 2)
 

@@ -120,7 +120,8 @@ pub fn ipv6_pseudo_header(
 }
 
 /// The verdict on the checksum of an IPv4 packet's payload that is no fragment, from both addresses
-/// and the protocol's number. That it is a fragment is not seen here. The payload has to end where
+/// and the protocol's number. The destination is the final one (RFC 791 section 3.1), as
+/// [`final_destination_ipv4`] gives it. That it is a fragment is not seen here. The payload has to end where
 /// the total length says, since each of its bytes counts, but those after a UDP datagram. A TCP
 /// segment of more than 65535 bytes is `Wrong`: the pseudo-header cannot say its length.
 ///
@@ -139,6 +140,8 @@ pub fn ipv6_pseudo_header(
 /// let verdict = ipv4_verdict(source, destination, IpNumber::UDP, &payload);
 /// assert!(rt; verdict == Verdict::Absent(Absence::NotComputed));
 /// ```
+///
+/// [`final_destination_ipv4`]: crate::final_destination::final_destination_ipv4
 pub fn ipv4_verdict(
     source: [u8; 4],
     destination: [u8; 4],

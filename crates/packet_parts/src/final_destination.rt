@@ -1,5 +1,5 @@
 //! Where a packet goes in the end that a source route of IPv4 or routing headers of IPv6 send over
-//! several stops.
+//! several stops: the destination that its checksums cover.
 
 ghost use Rattle.std.specs.Prelude.{ℕ, ◌≡◌, ◌≤◌, List, Option, Some, length, option_map};
 ghost use Rattle.packet_parts.specs.FinalDestination.{GoesToIpv4, GoesToIpv6, HasFirstRoute};
@@ -18,8 +18,8 @@ use etherparse_net::Ipv4OptionsIterator;
 /// (RFC 791 section 3.1, types 131 and 137): then it is the last of these addresses. If there are
 /// several source routes, the first one counts.
 ///
-/// A source route whose pointer or length does not fit sends the packet nowhere. The options are
-/// read up to the first that is cut off or has a length below 2.
+/// One whose pointer or length does not fit counts as completed. The options are read up to the
+/// first that is cut off or has a length below 2.
 ///
 /// # Example
 ///
@@ -27,9 +27,9 @@ use etherparse_net::Ipv4OptionsIterator;
 /// // A loose source route, whose pointer 4 says that both of its addresses are left.
 /// let mut options = [131, 11, 4, 192, 0, 2, 1, 192, 0, 2, 2, 0];
 /// assert!(rt; final_destination_ipv4([10, 0, 0, 1], &options) == [192, 0, 2, 2]);
-/// // After both stops it has the addresses of the routers, and the header the final destination.
+/// // With all visited, it is the destination of the header.
 /// options[2] = 12;
-/// assert!(rt; final_destination_ipv4([192, 0, 2, 2], &options) == [192, 0, 2, 2]);
+/// assert!(rt; final_destination_ipv4([192, 0, 2, 9], &options) == [192, 0, 2, 9]);
 /// ```
 pub fn final_destination_ipv4(destination: [u8; 4], options: &[u8]) -> [u8; 4]
     ensures goes_to { GoesToIpv4 destination options.now result }
@@ -89,7 +89,7 @@ fn after_route(destination: [u8; 4], route: &[u8]) -> [u8; 4]
 ///
 /// `None` if it is not known: a routing header with segments left has a type other than 0 (RFC 2460
 /// section 4.4), 2 (RFC 6275 section 6.4), 3 (RFC 6554 section 3) and 4 (RFC 8754 section 2), or
-/// its numbers do not fit its length; a payload header of Shim6 hides it (RFC 5533 section 5.1); or
+/// its numbers do not fit its length; a payload header of Shim6 hides it (RFC 5533 section 5.2); or
 /// an extension header is incomplete. The compressed segments of RFC 9800 are not looked into.
 ///
 /// What follows the fragment header of a later fragment is no header: leave it out, as

@@ -62,7 +62,8 @@ impl fmt::Display for ChecksumError {
 /// segment.
 ///
 /// The segment has to end where the packet's length field says, since each of its bytes counts; but
-/// a UDP datagram ends where its own length field says: set that first.
+/// a UDP datagram ends where its own length field says: set that first. On a source route, the
+/// destination has to be the final one (RFC 791 section 3.1).
 ///
 /// # Errors
 ///

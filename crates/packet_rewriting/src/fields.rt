@@ -165,8 +165,9 @@ pub fn set_destination_ipv4(packet: &mut [u8], destination: [u8; 4]) -> Result<R
 
 /// Gives an IPv6 packet another source address in place: bytes 8 to 23, and the checksum of UDP,
 /// TCP or ICMPv6, if [`Reach`] says so. A UDP checksum of 0 stays 0. All else stays the same, also
-/// what comes after the packet, and an authentication header (RFC 4302). A checksum that covers the
-/// home address of a mobile node instead (RFC 6275 section 11.3.1) becomes wrong.
+/// what comes after the packet, and an authentication header (RFC 4302). A checksum that covers
+/// another source becomes wrong: the home address of a mobile node (RFC 6275 section 11.3.1), or one
+/// that Shim6 hides (RFC 5533).
 ///
 /// # Errors
 ///

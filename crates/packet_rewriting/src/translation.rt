@@ -5,10 +5,11 @@ ghost use Rattle.std.specs.Prelude.{◌≡◌, ◌==◌, if◌then◌else◌};
 ghost use Rattle.etherparse.specs.WordSums.{UpdatesChecksum, UpdatesChecksumWithNoZero};
 ghost use Rattle.etherparse.specs.WordSums.{network_order_word_sum, updated_checksum_of_words};
 ghost use Rattle.etherparse.specs.WordSums.{with_no_zero};
-ghost use Rattle.packet_rewriting.specs.Translation.{Readdresses};
+ghost use Rattle.packet_rewriting.specs.Translation.{OfFinal, Readdresses};
 
 use etherparse::Ipv4Header;
 use etherparse::checksum::{update_4bytes, update_4bytes_with_no_zero};
+use packet_parts::final_destination::final_destination_ipv4;
 
 /// Gives a header another source address, and returns the UDP checksum for it; 0, which says that
 /// there is none, stays 0.
@@ -37,7 +38,8 @@ pub fn translate_udp_source(header: &mut Ipv4Header, udp_checksum: u16, source: 
     update_4bytes_with_no_zero(udp_checksum, old, source)
 }
 
-/// The same with another destination address.
+/// The same with another destination address. The checksum is for the final destination, which a
+/// source route in the options can keep (RFC 791 section 3.1).
 pub fn translate_udp_destination(
     header: &mut Ipv4Header,
     udp_checksum: u16,
@@ -45,15 +47,15 @@ pub fn translate_udp_destination(
 ) -> u16
     ensures header { Readdresses header.old header.new
         (record header.old { destination = destination }) header.old.destination destination }
-    ensures value { result ≡ if udp_checksum == 0 then 0 else with_no_zero
-        (updated_checksum_of_words 2 udp_checksum header.old.destination destination) }
-    ensures udp { UpdatesChecksumWithNoZero udp_checksum
-        (network_order_word_sum header.old.destination) (network_order_word_sum destination)
-        result }
+    ensures value { OfFinal header.old destination (λ old new. result ≡ if udp_checksum == 0 then 0
+        else with_no_zero (updated_checksum_of_words 2 udp_checksum old new)) }
+    ensures udp { OfFinal header.old destination (λ old new. UpdatesChecksumWithNoZero udp_checksum
+        (network_order_word_sum old) (network_order_word_sum new) result) }
 {
-    let old = header.destination;
+    let old = final_destination_ipv4(header.destination, header.options.as_slice());
     header.set_destination(destination);
-    update_4bytes_with_no_zero(udp_checksum, old, destination)
+    let new = final_destination_ipv4(destination, header.options.as_slice());
+    update_4bytes_with_no_zero(udp_checksum, old, new)
 }
 
 /// Gives a header another source address, and returns the TCP checksum for it, which may be 0.
@@ -82,7 +84,8 @@ pub fn translate_tcp_source(header: &mut Ipv4Header, tcp_checksum: u16, source: 
     update_4bytes(tcp_checksum, old, source)
 }
 
-/// The same with another destination address.
+/// The same with another destination address. The checksum is for the final destination, which a
+/// source route in the options can keep (RFC 791 section 3.1).
 pub fn translate_tcp_destination(
     header: &mut Ipv4Header,
     tcp_checksum: u16,
@@ -90,13 +93,13 @@ pub fn translate_tcp_destination(
 ) -> u16
     ensures header { Readdresses header.old header.new
         (record header.old { destination = destination }) header.old.destination destination }
-    ensures value { result
-        ≡ updated_checksum_of_words 2 tcp_checksum header.old.destination destination }
-    ensures tcp { UpdatesChecksum tcp_checksum
-        (network_order_word_sum header.old.destination) (network_order_word_sum destination)
-        result }
+    ensures value { OfFinal header.old destination (λ old new. result
+        ≡ updated_checksum_of_words 2 tcp_checksum old new) }
+    ensures tcp { OfFinal header.old destination (λ old new. UpdatesChecksum tcp_checksum
+        (network_order_word_sum old) (network_order_word_sum new) result) }
 {
-    let old = header.destination;
+    let old = final_destination_ipv4(header.destination, header.options.as_slice());
     header.set_destination(destination);
-    update_4bytes(tcp_checksum, old, destination)
+    let new = final_destination_ipv4(destination, header.options.as_slice());
+    update_4bytes(tcp_checksum, old, new)
 }

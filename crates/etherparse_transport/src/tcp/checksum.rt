@@ -18,8 +18,8 @@ use etherparse::{Ipv4HeaderSlice, Ipv6HeaderSlice};
 
 impl<'a> TcpHeaderSlice<'a> {
     /// The checksum over IPv4 that belongs into the header before this payload, whatever bytes 16
-    /// and 17 have; the addresses are those of the IP header. It is never 65535. In a packet with a
-    /// source route, the destination has to be the last one (RFC 791 section 3.1).
+    /// and 17 have; the addresses are those of the IP header. It is never 65535. On a source
+    /// route, call the `_raw` form with the final destination (RFC 791 section 3.1).
     ///
     /// # Errors
     ///
@@ -84,8 +84,8 @@ impl<'a> TcpHeaderSlice<'a> {
         }
     }
 
-    /// The checksum over IPv6, as [`TcpHeaderSlice::calc_checksum_ipv4`] gives that over IPv4. In a
-    /// packet with a routing header, the destination has to be the last one (RFC 8200 section 8.1).
+    /// The checksum over IPv6, as [`TcpHeaderSlice::calc_checksum_ipv4`] gives that over IPv4. With
+    /// a routing header, call the `_raw` form with the final destination (RFC 8200 section 8.1).
     ///
     /// # Errors
     ///

@@ -18,8 +18,8 @@ use etherparse::{Ipv4Header, Ipv6Header};
 
 impl TcpHeader {
     /// The checksum over IPv4 that belongs into this header before this payload, whatever its field
-    /// `checksum` has; the addresses are those of the IP header. It is never 65535. In a packet with
-    /// a source route, the destination has to be the last one (RFC 791 section 3.1).
+    /// `checksum` has; the addresses are those of the IP header. It is never 65535. On a source
+    /// route, call the `_raw` form with the final destination (RFC 791 section 3.1).
     ///
     /// # Errors
     ///
@@ -80,8 +80,8 @@ impl TcpHeader {
         }
     }
 
-    /// The checksum over IPv6, as [`TcpHeader::calc_checksum_ipv4`] gives that over IPv4. In a
-    /// packet with a routing header, the destination has to be the last one (RFC 8200 section 8.1).
+    /// The checksum over IPv6, as [`TcpHeader::calc_checksum_ipv4`] gives that over IPv4. With
+    /// a routing header, call the `_raw` form with the final destination (RFC 8200 section 8.1).
     ///
     /// # Errors
     ///

@@ -56,8 +56,8 @@ impl UdpHeader {
     }
 
     /// A header for this payload, with its checksum over IPv4: the addresses are those of the IP
-    /// header. In a packet with a source route, the destination has to be the last one (RFC 791
-    /// section 3.1).
+    /// header. On a source route, set [`UdpHeader::calc_checksum_ipv4_raw`] with the final
+    /// destination instead (RFC 791 section 3.1).
     ///
     /// # Errors
     ///
@@ -104,8 +104,8 @@ impl UdpHeader {
     }
 
     /// A header for this payload, with its checksum over IPv6: the addresses are those of the IP
-    /// header. In a packet with a routing header, the destination has to be the last one (RFC 8200
-    /// section 8.1).
+    /// header. With a routing header, set [`UdpHeader::calc_checksum_ipv6_raw`] with the final
+    /// destination instead (RFC 8200 section 8.1).
     ///
     /// # Errors
     ///
@@ -144,8 +144,8 @@ impl UdpHeader {
     }
 
     /// The checksum over IPv4 that belongs into this header before this payload, whatever its field
-    /// `checksum` has; the addresses are those of the IP header. It is never 0. In a packet with a
-    /// source route, the destination has to be the last one (RFC 791 section 3.1).
+    /// `checksum` has; the addresses are those of the IP header. It is never 0. On a source route,
+    /// call the `_raw` form with the final destination (RFC 791 section 3.1).
     ///
     /// The sum has the field `length` as it stands: set it first, to 8 and the payload's length.
     /// Otherwise no receiver finds the checksum of this datagram right, but by chance.
@@ -215,8 +215,8 @@ impl UdpHeader {
         Ok(self.checksum_over_ipv4(source, destination, payload))
     }
 
-    /// The checksum over IPv6, as [`UdpHeader::calc_checksum_ipv4`] gives that over IPv4. In a
-    /// packet with a routing header, the destination has to be the last one (RFC 8200 section 8.1).
+    /// The checksum over IPv6, as [`UdpHeader::calc_checksum_ipv4`] gives that over IPv4. With
+    /// a routing header, call the `_raw` form with the final destination (RFC 8200 section 8.1).
     ///
     /// The sum has the field `length` as it stands, in the pseudo-header too. A payload from 65528
     /// bytes on, which that field cannot count, is summed as any other: for a jumbogram, whose
