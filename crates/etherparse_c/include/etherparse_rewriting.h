@@ -90,9 +90,9 @@ uint32_t etherparse_set_checksum_ipv6(const uint8_t source[16], const uint8_t de
  * which says that there is none, stays 0. What comes after the packet stays.
  *
  * A new destination updates a checksum for the final one (RFC 791 section 3.1, RFC 8200 section
- * 8.1), unless a source route or a routing header keeps that, or it is unknown. For a new IPv6
- * source home address options and Shim6 are not looked into, nor are protocols unknown here: a right
- * checksum can become wrong. */
+ * 8.1), unless a source route or a routing header keeps that, or it is unknown. A right checksum
+ * can become wrong by a new IPv6 source with a home address option or with Shim6, and by any new
+ * address for a protocol unknown here. */
 
 /* How far the change of an address reaches. */
 enum {

@@ -27,7 +27,7 @@ pub struct SlicedPacket<'a> {
     /// Ethernet's padding, or another protocol.
     pub payload: &'a [u8],
     /// The IP packet; `None` if `payload` is another protocol, or in a `LaxSlicedPacket` if it has
-    /// no IP header, or one whose total length is below its own, but not 0.
+    /// no IP header, or one whose total length is below the header's, but not 0.
     pub net: Option<IpSlice<'a>>,
     /// The transport header; `None` without an IP packet, if the number of its payload is of none
     /// that is read, if that payload is of a later fragment, or if a first fragment does not have

@@ -34,9 +34,9 @@ is_bridged place frame = has 0 place frame && has 0x80 (place + 1) frame
     && has 0xc2 (place + 2) frame && has 0 (place + 3) frame
     && (has 0x01 (place + 4) frame || has 0x07 (place + 4) frame)
 
--- SNAP at a place: three bytes name an organization, two its protocol (IEEE 802 section 9.2.2). If
--- that is a bridged frame of Ethernet, `padding` bytes come before it; its header is a part of SNAP,
--- and the last two bytes of that are the EtherType.
+-- SNAP at a place: three bytes name an organization, two its protocol (IEEE 802 section 9.2.2).
+-- Before a bridged frame of Ethernet come `padding` bytes. They and its header are a part of SNAP
+-- here, and the last two bytes of its header are the EtherType.
 abbrev pub snap_header : ℕ → ℕ → List ℕ → Header
 snap_header padding place frame = if is_ether_type place frame
     then record { len = place + 5; carried = carried.EtherType (number_at (place + 3) frame) }

@@ -1,5 +1,5 @@
-//! Where a packet goes in the end that a source route of IPv4 or routing headers of IPv6 send over
-//! several stops: the destination that its checksums cover.
+//! The last of several stops over which a source route of IPv4 or routing headers of IPv6 send a
+//! packet: the destination that its checksums cover.
 
 ghost use Rattle.std.specs.Prelude.{ℕ, ◌≡◌, ◌≤◌, List, Option, Some, length, option_map};
 ghost use Rattle.packet_parts.specs.FinalDestination.{GoesToIpv4, GoesToIpv6, HasFirstRoute};
@@ -18,7 +18,7 @@ use etherparse_net::Ipv4OptionsIterator;
 /// (RFC 791 section 3.1, types 131 and 137): then it is the last of these addresses. If there are
 /// several source routes, the first one counts.
 ///
-/// One whose pointer or length does not fit counts as completed. The options are read up to the
+/// A route whose pointer or length does not fit counts as completed. The options are read up to the
 /// first that is cut off or has a length below 2.
 ///
 /// # Example
@@ -62,12 +62,21 @@ fn first_source_route(options: &[u8]) -> Option<&[u8]>
     }
 }
 
+// The types of both source routes.
+const LOOSE_SOURCE_ROUTE: u8 = 131;
+
+const STRICT_SOURCE_ROUTE: u8 = 137;
+
+const _: () = prove!(LOOSE_SOURCE_ROUTE == 131);
+
+const _: () = prove!(STRICT_SOURCE_ROUTE == 137);
+
 // Whether an option is a source route.
 fn is_source_route(option: &[u8]) -> bool
     requires some { 1 ≤ length option.now }
     ensures value { result ≡ is_source_route option.now }
 {
-    option[0] == 131 || option[0] == 137
+    option[0] == LOOSE_SOURCE_ROUTE || option[0] == STRICT_SOURCE_ROUTE
 }
 
 // The destination after a source route.

@@ -125,8 +125,8 @@ pub record UpdatesPayload (reach : Reach) (words number : ℕ) (old new before a
       (network_order_word_sum old) (network_order_word_sum new)
       (updated_upper words number (checksum_field number before) old new)
 
--- A payload after so many words became others, for which its checksum is updated. If the words are
--- the same, the payload stays.
+-- A payload whose checksum is updated for so many words that became others. If the words are the
+-- same, the payload stays.
 abbrev pub UpdatesIfOther : ℕ → Reach → ℕ → List ℕ → List ℕ → List ℕ → List ℕ → Type 0
 UpdatesIfOther words reach number old new before after = ((old ≡ new) × (after ≡ before))
     ⊎ ((old ≢ new) × UpdatesPayload reach words number old new before after)
@@ -155,8 +155,8 @@ KeepsRightIpv4 slice header next payload = (old new : List ℕ)
     → IsVerdictIpv4 header.source old slice.upper slice.payload.now Right
     → IsVerdictIpv4 next.source new slice.upper payload Right
 
--- An IPv4 packet has another address, at an offset in its header, and its two checksums are updated
--- for it. What the link added after the packet stays.
+-- An IPv4 packet has another address, at an offset in its header. The header checksum is updated for
+-- it, that of the payload by `Updates`. What the link added after the packet stays.
 pub record ReaddressesIpv4 (Updates : IpSlice → Ipv4Header → Reach → List ℕ → Type 0)
     (offset : ℕ) (address before after : List ℕ) (reach : Reach) : Type 0 where
   pub slice : IpSlice
