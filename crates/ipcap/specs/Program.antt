@@ -22,7 +22,7 @@ use Rattle.ipcap.specs.Reassembled.{Memory}
 use Rattle.ipcap.specs.Refusal.{refusal_lines}
 use Rattle.ipcap.specs.Request.{IsFilter, IsNoFilter}
 use Rattle.ipcap.specs.Status.{code_of}
-use Rattle.ipcap.specs.Streams.{NoReadFails, Reports, pending, unlisted, unread}
+use Rattle.ipcap.specs.Streams.{NoReadFails, NoWriteFails, Reports, pending, unlisted, unread}
 use Rattle.ipcap.specs.declared.arguments.Arguments.{Arguments}
 use Rattle.ipcap.specs.declared.arguments.ArgumentsError.{ArgumentsError}
 use Rattle.ipcap.specs.declared.failure.Failure.{Failure}
@@ -117,6 +117,7 @@ module _ {R W E : Type 0} (remaining : R → Option (List ℕ)) (contents : W �
     pub writes : IfSome (unlisted remaining input) (λ bytes. Writes contents contents_of_errors
         error_failed (IsOutcome request memory bytes) status old new old_errors new_errors)
     pub unfailed : NoReadFails read_failed input left
+    pub unfailed_writes : NoWriteFails write_failed old new
 
   -- it fails, standard error gets a line on that, and the code is 3
   pub record FailsWith (request : Request) (memory : Memory) (input left : Input R)

@@ -34,6 +34,10 @@ CannotRead has_failed input = has_failed input.source ⊎ (input.count ≡ 2 ^ 6
 abbrev pub NoReadFails : {R : Type 0} → (R → Type 0) → Input R → Input R → Type 0
 NoReadFails has_failed old new = has_failed new.source → has_failed old.source
 
+-- no write has failed since, nor a text that `write!` could not write
+abbrev pub NoWriteFails : {W : Type 0} → (W → Type 0) → Output W → Output W → Type 0
+NoWriteFails has_failed old new = has_failed new.sink → has_failed old.sink
+
 -- the text that the sink has not yet got
 abbrev pub pending : {W : Type 0} → Output W → List ℕ
 pending output = drop output.passed output.text.items

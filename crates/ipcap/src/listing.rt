@@ -12,7 +12,7 @@ ghost use Rattle.ipcap.specs.Private.Progress.{Tells, TellsBlock, TellsFrame, Te
 ghost use Rattle.ipcap.specs.Private.Progress.{IsShort, TellsFrontOf, TellsSaid, Turns, keeps};
 ghost use Rattle.ipcap.specs.Reading.{max_len};
 ghost use Rattle.ipcap.specs.Request.{has_enough};
-ghost use Rattle.ipcap.specs.Streams.{CannotRead, NoReadFails, Prints, unread};
+ghost use Rattle.ipcap.specs.Streams.{CannotRead, NoReadFails, NoWriteFails, Prints, unread};
 ghost use Rattle.ipcap.specs.Totals.{HasRoom, no_packet, packet};
 
 use crate::completing::{completed, head_of_whole};
@@ -71,6 +71,7 @@ fn skip<R: Source, W: Sink>(
     ensures unfailed { OnOk result (NoReadFails R.has_failed input.old input.new) }
     ensures unfailed_else { IfErr result (λ e. e ≢ Failure.Read →
         NoReadFails R.has_failed input.old input.new) }
+    ensures unfailed_writes { OnOk result (NoWriteFails W.has_failed output.old output.new) }
 {
     let mut left = len;
     let mut last = [0; 4];
@@ -121,6 +122,7 @@ impl Request {
         ensures kept { OnErr result (Prints W.contents output.old output.new []) }
         ensures failed { IfErr result (λ e. Because ⊥ (W.has_failed output.new.sink)
             (¬ HasRoom totals.old) e ⊥ [] []) }
+        ensures unfailed_writes { OnOk result (NoWriteFails W.has_failed output.old output.new) }
     {
         if !totals.count(bytes.len(), head, &reading) {
             return Err(Failure::Count);
@@ -171,6 +173,7 @@ impl Request {
         ensures kept { OnErr result (Prints W.contents output.old output.new []) }
         ensures failed { IfErr result (λ e. Because ⊥ (W.has_failed output.new.sink)
             (¬ HasRoom totals.old) e ⊥ [] []) }
+        ensures unfailed_writes { OnOk result (NoWriteFails W.has_failed output.old output.new) }
     {
         let reading = read_numbered(head.link_type, left_out(head), frame);
         self.list_packet(totals, is_reassembled, head, bytes, reading, output)
@@ -194,6 +197,7 @@ impl Request {
         ensures kept { OnErr result (Prints W.contents output.old output.new []) }
         ensures failed { IfErr result (λ e. Because ⊥ (W.has_failed output.new.sink)
             (¬ HasRoom totals.old) e ⊥ [] []) }
+        ensures unfailed_writes { OnOk result (NoWriteFails W.has_failed output.old output.new) }
     {
         if !self.is_chosen(head, frame) {
             return if totals.pass(bytes.len(), false, head) {
@@ -226,6 +230,7 @@ impl Request {
         ensures kept { OnErr result (Prints W.contents output.old output.new []) }
         ensures failed { IfErr result (λ e. Because ⊥ (W.has_failed output.new.sink)
             (¬ HasRoom totals.old) e ⊥ [] []) }
+        ensures unfailed_writes { OnOk result (NoWriteFails W.has_failed output.old output.new) }
     {
         totals.pass_block(bytes.len());
         output.copy_if(self.copies(), bytes)
@@ -247,6 +252,7 @@ impl Request {
         ensures kept { OnErr result (Prints W.contents output.old output.new []) }
         ensures failed { IfErr result (λ e. Because ⊥ (W.has_failed output.new.sink)
             (¬ HasRoom totals.old) e ⊥ [] []) }
+        ensures unfailed_writes { OnOk result (NoWriteFails W.has_failed output.old output.new) }
     {
         match &self.filter {
             None => self.list_packet(totals, false, head, bytes, Reading::Skipped, output),
@@ -279,6 +285,7 @@ impl Request {
         ensures kept { OnErr result (Prints W.contents output.old output.new []) }
         ensures failed { IfErr result (λ e. Because ⊥ (W.has_failed output.new.sink)
             (¬ HasRoom totals.old) e ⊥ [] []) }
+        ensures unfailed_writes { OnOk result (NoWriteFails W.has_failed output.old output.new) }
     {
         let Some(len) = completed(totals, &mut memory.frames, head, frame, memory.out) else {
             return self.list_frame(totals, false, head, bytes, frame, output);
@@ -305,6 +312,7 @@ impl Request {
         ensures kept { OnErr result (Prints W.contents output.old output.new []) }
         ensures failed { IfErr result (λ e. Because ⊥ (W.has_failed output.new.sink)
             (¬ HasRoom place.old.totals) e ⊥ [] []) }
+        ensures unfailed_writes { OnOk result (NoWriteFails W.has_failed output.old output.new) }
     {
         let totals = &mut place.totals;
         match block {
@@ -332,6 +340,7 @@ impl Request {
         ensures stops { IfOk result (λ x. Stops self.now place.new x.0.now x.1) }
         ensures failed { IfErr result (λ e. TellsFront W.contents self.now ⊥
             (W.has_failed output.new.sink) place.old e bytes.now output.old output.new) }
+        ensures unfailed_writes { OnOk result (NoWriteFails W.has_failed output.old output.new) }
     {
         let most = max_len(&place.capture);
         let mut rest = bytes;
@@ -383,6 +392,7 @@ impl Request {
         ensures kept { OnErr result (Prints W.contents output.old output.new []) }
         ensures failed { IfErr result (λ e. Because ⊥ (W.has_failed output.new.sink)
             (¬ HasRoom totals.old) e ⊥ [] []) }
+        ensures unfailed_writes { OnOk result (NoWriteFails W.has_failed output.old output.new) }
     {
         match &front.content {
             Content::Packet(head) => self.list_too_long(totals, head, &[], output),
@@ -411,6 +421,7 @@ impl Request {
         ensures unfailed { OnOk result (NoReadFails R.has_failed input.old input.new) }
         ensures unfailed_else { IfErr result (λ e. e ≢ Failure.Read →
             NoReadFails R.has_failed input.old input.new) }
+        ensures unfailed_writes { OnOk result (NoWriteFails W.has_failed output.old output.new) }
     {
         let front = match place.capture.block_front(input.unread()) {
             Ok(front) => front,
@@ -453,6 +464,7 @@ impl Request {
         ensures unfailed { OnOk result (NoReadFails R.has_failed input.old input.new) }
         ensures unfailed_else { IfErr result (λ e. e ≢ Failure.Read →
             NoReadFails R.has_failed input.old input.new) }
+        ensures unfailed_writes { OnOk result (NoWriteFails W.has_failed output.old output.new) }
     {
         let end = match stop {
             Stop::Enough => return Ok(Turn::Ends(None)),
@@ -489,6 +501,7 @@ impl Request {
         ensures unfailed { OnOk result (NoReadFails R.has_failed input.old input.new) }
         ensures unfailed_else { IfErr result (λ e. e ≢ Failure.Read →
             NoReadFails R.has_failed input.old input.new) }
+        ensures unfailed_writes { OnOk result (NoWriteFails W.has_failed output.old output.new) }
     {
         'turns: loop {
             let bytes = input.unread();

@@ -28,7 +28,8 @@ pub struct Output<W> {
 
 impl<W: Sink> Output<W> {
     ghost use Rattle.ipcap.specs.Faults.{Says, fault_line};
-    ghost use Rattle.ipcap.specs.Streams.{Prints, PrintsFront, Reports, kept_if, pending};
+    ghost use Rattle.ipcap.specs.Streams.{NoWriteFails, Prints, PrintsFront, Reports, kept_if};
+    ghost use Rattle.ipcap.specs.Streams.{pending};
 
     /// No line.
     pub fn new(sink: W) -> Output<W>
@@ -49,6 +50,7 @@ impl<W: Sink> Output<W> {
             (Prints W.contents self.old self.new)) }
         ensures kept { OnErr result (Prints W.contents self.old self.new []) }
         ensures failed { IfErr result (λ e. (e ≡ Failure.Write) × W.has_failed self.new.sink) }
+        ensures unfailed_writes { OnOk result (NoWriteFails W.has_failed self.old self.new) }
     {
         self.line.clear();
         if self.sink.format(line, &mut self.line).is_err() {
@@ -68,6 +70,7 @@ impl<W: Sink> Output<W> {
         ensures prints { OnOk result (Prints W.contents self.old self.new bytes.now) }
         ensures kept { OnErr result (Prints W.contents self.old self.new []) }
         ensures failed { IfErr result (λ e. (e ≡ Failure.Write) × W.has_failed self.new.sink) }
+        ensures unfailed_writes { OnOk result (NoWriteFails W.has_failed self.old self.new) }
     {
         self.make_room(bytes.len())?;
         let _fits = self.text.try_extend_from_slice(bytes);
@@ -81,6 +84,7 @@ impl<W: Sink> Output<W> {
             (Prints W.contents self.old self.new (kept_if is_kept bytes.now)) }
         ensures kept { OnErr result (Prints W.contents self.old self.new []) }
         ensures failed { IfErr result (λ e. (e ≡ Failure.Write) × W.has_failed self.new.sink) }
+        ensures unfailed_writes { OnOk result (NoWriteFails W.has_failed self.old self.new) }
     {
         if is_kept { self.copy(bytes) } else { Ok(()) }
     }
@@ -92,6 +96,7 @@ impl<W: Sink> Output<W> {
         ensures room { OnOk result (array_vec_len self.new.text + len ≤ TEXT_ROOM) }
         ensures line { self.new.line ≡ self.old.line }
         ensures failed { IfErr result (λ e. (e ≡ Failure.Write) × W.has_failed self.new.sink) }
+        ensures unfailed_writes { OnOk result (NoWriteFails W.has_failed self.old self.new) }
     {
         if self.text.remaining_capacity() < len {
             self.hand_over()
@@ -107,6 +112,7 @@ impl<W: Sink> Output<W> {
         ensures room { OnOk result (self.new.text.items ≡ []) }
         ensures line { self.new.line ≡ self.old.line }
         ensures failed { IfErr result (λ e. (e ≡ Failure.Write) × W.has_failed self.new.sink) }
+        ensures unfailed_writes { OnOk result (NoWriteFails W.has_failed self.old self.new) }
     {
         'writes: while self.passed < self.text.len() {
             match self.sink.write(&self.text.as_slice()[self.passed..]) {
@@ -128,6 +134,7 @@ impl<W: Sink> Output<W> {
         ensures front { OnErr result (IfSome (D.output lines)
             (PrintsFront W.contents self.old self.new)) }
         ensures failed { IfErr result (λ e. (e ≡ Failure.Write) × W.has_failed self.new.sink) }
+        ensures unfailed_writes { OnOk result (NoWriteFails W.has_failed self.old self.new) }
     {
         self.print(lines)?;
         self.hand_over()
@@ -180,6 +187,7 @@ impl<W: Sink> Output<W> {
         ensures front { OnErr result (PrintsFront W.contents self.old self.new
             (fault_line what.now (option_map (λ text. text.now) reason.entry))) }
         ensures failed { IfErr result (λ e. (e ≡ Failure.Write) × W.has_failed self.new.sink) }
+        ensures unfailed_writes { OnOk result (NoWriteFails W.has_failed self.old self.new) }
     {
         self.copy(b"error: ")?;
         self.copy(what)?;

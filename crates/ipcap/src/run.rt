@@ -7,7 +7,8 @@ ghost use Rattle.ipcap.specs.Output.{Fails, HasReadFrames, IsOutcome, Writes, he
 ghost use Rattle.ipcap.specs.Output.{status_at};
 ghost use Rattle.ipcap.specs.Private.Ended.{FailsListing, HasUnreadFrames, LacksFront};
 ghost use Rattle.ipcap.specs.Private.Ended.{WritesListing};
-ghost use Rattle.ipcap.specs.Streams.{CannotRead, NoReadFails, Takes, pending, unlisted, unread};
+ghost use Rattle.ipcap.specs.Streams.{CannotRead, NoReadFails, NoWriteFails, Takes, pending};
+ghost use Rattle.ipcap.specs.Streams.{unlisted, unread};
 
 use crate::failure::Failure;
 use crate::input::Input;
@@ -54,6 +55,7 @@ pub fn run<R: Source, W: Sink, E: Sink>(
     ensures failed { IfErr result (λ e. Fails R.remaining W.contents R.has_failed W.has_failed
         request.now memory.entry e input.old input.new output.old output.new errors.old errors.new) }
     ensures unfailed { OnOk result (NoReadFails R.has_failed input.old input.new) }
+    ensures unfailed_writes { OnOk result (NoWriteFails W.has_failed output.old output.new) }
 {
     fill_to_front(input, output)?;
     let front = input.unread();
@@ -151,6 +153,7 @@ fn list_blocks<R: Source, W: Sink, E: Sink>(
         R.has_failed W.has_failed request.now memory.entry capture e
         input.old input.new output.old output.new errors.old errors.new) }
     ensures unfailed { OnOk result (NoReadFails R.has_failed input.old input.new) }
+    ensures unfailed_writes { OnOk result (NoWriteFails W.has_failed output.old output.new) }
 {
     let reassembles = memory.is_some();
     let mut place = Place {

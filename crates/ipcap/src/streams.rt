@@ -70,6 +70,7 @@ pub trait Sink {
         ensures some { IfOk result (λ n. 0 < length bytes.now → 0 < n) }
         ensures retried { IfErr result (λ e. error_kind e ≢ ErrorKind.Interrupted) }
         ensures failed { OnErr result (has_failed self.new) }
+        ensures unfailed { OnOk result (has_failed self.new → has_failed self.old) }
         ensures why { IfErr result (λ e. why_failed self.new ≡ Some e) };
 
     /// Writes a text to an empty line, as `write!` does. What the sink holds stays as it is.
@@ -79,6 +80,7 @@ pub trait Sink {
         ensures made { OnOk result (is_text D text line.new.bytes) }
         ensures kept { Keeps (contents self.old) (contents self.new) }
         ensures failed { OnErr result (has_failed self.new) }
+        ensures unfailed { OnOk result (has_failed self.new → has_failed self.old) }
         ensures why { IfErr result (λ e. why_failed self.new ≡ Some e) };
 
     /// Why the last of these calls that failed did so; `None` if none has failed.

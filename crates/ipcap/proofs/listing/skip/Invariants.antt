@@ -1,6 +1,6 @@
 use Rattle.std.proofs.Common.{◌≡◌, ◌-◌, ◌≤◌, ◌^◌, List, ℕ, length}
 use Rattle.ipcap.specs.Private.Progress.{last_four}
-use Rattle.ipcap.specs.Streams.{NoReadFails, Prints, Takes, kept_if}
+use Rattle.ipcap.specs.Streams.{NoReadFails, NoWriteFails, Prints, Takes, kept_if}
 use Rattle.ipcap.proofs.listing.skip.Given as goal
 
 abbrev pub invariant-turns : goal.invariant-turns
@@ -12,6 +12,7 @@ invariant-turns g l = record {
   last : l.last ≡ last_four taken;
   prints : Prints g.W.Sink.contents l.fn.output l.output (kept_if l.keeps taken);
   unfailed : NoReadFails g.R.Source.has_failed l.fn.input l.input;
+  unfailed_writes : NoWriteFails g.W.Sink.has_failed l.fn.output l.output;
 }
 
 abbrev pub decreases-turns : goal.decreases-turns

@@ -3,7 +3,7 @@ use Rattle.ipcap.proofs.program.list.Goals as goal
 
 pub returns-in-Ok : goal.returns-in-Ok
 returns-in-Ok g c = record {
-  runs = inl (record { status = c.in-Ok.status; is_code = c.code.ensures.value; writes = c.in-Ok.ensures.output; unfailed = c.in-Ok.ensures.unfailed });
+  runs = inl (record { status = c.in-Ok.status; is_code = c.code.ensures.value; writes = c.in-Ok.ensures.output; unfailed = c.in-Ok.ensures.unfailed; unfailed_writes = c.in-Ok.ensures.unfailed_writes });
 }
 
 pub returns-in-Err : goal.returns-in-Err

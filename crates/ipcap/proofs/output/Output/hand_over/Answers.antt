@@ -17,10 +17,11 @@ writes-preserved g c =
         prints = passed_more _ k.passed c.writes.self.text.items c.writes.self.passed c.in-Ok.n k.prints;
       };
       line = c.writes.invariant.line;
+      unfailed_writes = λ x. c.writes.invariant.unfailed_writes (c.in-Ok.ensures.unfailed x);
     }
 
 pub returns : goal.returns
-returns g c = record { all = grind (arith, common_steps); failed = grind (arith, common_steps); kept = grind (arith, common_steps); line = grind (arith, common_steps); room = grind (arith, common_steps) }
+returns g c = record { all = grind (arith, common_steps); failed = grind (arith, common_steps); kept = grind (arith, common_steps); line = grind (arith, common_steps); room = grind (arith, common_steps); unfailed_writes = grind (arith, common_steps) }
 
 pub returns-in-Err : goal.returns-in-Err
-returns-in-Err g c = record { all = grind (arith, common_steps); failed = grind (arith, common_steps); kept = grind (arith, common_steps); line = grind (arith, common_steps); room = grind (arith, common_steps) }
+returns-in-Err g c = record { all = grind (arith, common_steps); failed = grind (arith, common_steps); kept = grind (arith, common_steps); line = grind (arith, common_steps); room = grind (arith, common_steps); unfailed_writes = grind (arith, common_steps) }

@@ -1,6 +1,6 @@
 use Rattle.std.proofs.Common.{◌-◌, ◌^◌, List, ℕ}
 use Rattle.ipcap.specs.Private.Progress.{Tells}
-use Rattle.ipcap.specs.Streams.{NoReadFails, Takes}
+use Rattle.ipcap.specs.Streams.{NoReadFails, NoWriteFails, Takes}
 use Rattle.ipcap.proofs.request.Request.list.Given as goal
 
 abbrev pub invariant-turns : goal.invariant-turns
@@ -9,6 +9,7 @@ invariant-turns g l = record {
   takes : Takes g.R.Source.remaining l.fn.input l.input taken;
   tells : Tells g.W.Sink.contents l.self l.fn.place l.place taken l.fn.output l.output;
   unfailed : NoReadFails g.R.Source.has_failed l.fn.input l.input;
+  unfailed_writes : NoWriteFails g.W.Sink.has_failed l.fn.output l.output;
 }
 
 abbrev pub decreases-turns : goal.decreases-turns

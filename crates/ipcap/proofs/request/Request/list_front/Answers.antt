@@ -12,21 +12,21 @@ use Rattle.ipcap.proofs.Runs.{front_after, front_of_nothing, long_record, rest_o
 use Rattle.ipcap.proofs.request.Request.list_front.Goals as goal
 
 pub fronts-init : goal.fronts-init
-fronts-init g c = record { most = c.max_len-most.ensures.value; taken = []; whole = refl; tells = tells_nothing _ _ _ _ }
+fronts-init g c = record { most = c.max_len-most.ensures.value; taken = []; whole = refl; tells = tells_nothing _ _ _ _; unfailed_writes = λ x. x }
 
 pub returns-in_err-list_too_long : goal.returns-in_err-list_too_long
 returns-in_err-list_too_long g c =
     let was = c.fronts.invariant in
     let p = err_from_is_err_and c.from_residual.result c.from_residual.ensures.1 in
     let failed = c.in_err-list_too_long.ensures in
-    rw p.1 (record { failed = rw (p.2, was.whole) (front_after _ _ _ _ _ _ _ _ _ _ _ _ was.tells (front_of_nothing _ _ _ _ ⊥ c.fronts.place _ c.fronts.rest.now _ _ failed.kept failed.failed)); rest = tt; stops = tt; told = tt })
+    rw p.1 (record { failed = rw (p.2, was.whole) (front_after _ _ _ _ _ _ _ _ _ _ _ _ was.tells (front_of_nothing _ _ _ _ ⊥ c.fronts.place _ c.fronts.rest.now _ _ failed.kept failed.failed)); rest = tt; stops = tt; told = tt; unfailed_writes = tt })
 
 pub returns-in_err-list_block : goal.returns-in_err-list_block
 returns-in_err-list_block g c =
     let was = c.fronts.invariant in
     let p = err_from_is_err_and c.from_residual-in_err-list_block.result c.from_residual-in_err-list_block.ensures.1 in
     let failed = c.in_err-list_block.ensures in
-    rw p.1 (record { failed = rw (p.2, was.whole) (front_after _ _ _ _ _ _ _ _ _ _ _ _ was.tells (front_of_nothing _ _ _ _ ⊥ c.fronts.place _ c.fronts.rest.now _ _ failed.kept failed.failed)); rest = tt; stops = tt; told = tt })
+    rw p.1 (record { failed = rw (p.2, was.whole) (front_after _ _ _ _ _ _ _ _ _ _ _ _ was.tells (front_of_nothing _ _ _ _ ⊥ c.fronts.place _ c.fronts.rest.now _ _ failed.kept failed.failed)); rest = tt; stops = tt; told = tt; unfailed_writes = tt })
 
 pub fronts-preserved : goal.fronts-preserved
 fronts-preserved g c =
@@ -46,6 +46,7 @@ fronts-preserved g c =
       whole = grind (arith, was.whole, append_assoc, parts);
       tells = tells_both _ _ _ _ _ _ _ _ _ _ was.tells (rw told.counts (told_one _ _ c.fronts.place mid s after (said c.in-Ok-Some.next.0) told.told _ _ (sym c.has_enough.ensures.value ∙ c.if-has_enough.false)
           (rw (same, parts) found) (omega (arith, was.most, c.if-whole-most.false)) told.is told.prints));
+      unfailed_writes = λ x. was.unfailed_writes (c.in_ok-list_block.ensures.unfailed_writes x);
     }
 
 pub fronts-preserved-in_ok-list_too_long : goal.fronts-preserved-in_ok-list_too_long
@@ -67,6 +68,7 @@ fronts-preserved-in_ok-list_too_long g c =
       whole = grind (arith, was.whole, append_assoc, parts);
       tells = tells_both _ _ _ _ _ _ _ _ _ _ was.tells (rw (told.counts, long.3, long.2) (told_long _ _ c.fronts.place s long.0 (packet false c.in-Packet.head (if_too_long c.args.self.now)) _ _ (sym c.has_enough.ensures.value ∙ c.if-has_enough.false)
           long.1 long.2 (λ more. (said c.in-Ok-Some.next.0, rw long.3 at (begins_with-front c.fronts.place.capture s after more c.next_block.new.capture (said c.in-Ok-Some.next.0) after begins (sym (length-append s after))))) is told.prints));
+      unfailed_writes = λ x. was.unfailed_writes (c.in_ok-list_too_long.ensures.unfailed_writes x);
     }
 
 pub list_block-requires-clause-short : goal.list_block-requires-clause-short
@@ -76,10 +78,10 @@ list_block-requires-clause-short g c =
     frame_short c.fronts.place.capture rest _ _ c.in-Ok-Some.next.1.now within (rw c.in-Ok-Some.field-0-is at c.in-Ok-Some.ensures.reads)
 
 pub returns-then-has_enough : goal.returns-then-has_enough
-returns-then-has_enough g c = record { failed = tt; rest = grind (arith, common_steps); stops = grind (arith, common_steps); told = grind (arith, common_steps) }
+returns-then-has_enough g c = record { failed = tt; rest = grind (arith, common_steps); stops = grind (arith, common_steps); told = grind (arith, common_steps); unfailed_writes = c.fronts.invariant.unfailed_writes }
 
 pub returns-in-Ok-None : goal.returns-in-Ok-None
-returns-in-Ok-None g c = record { failed = tt; rest = grind (arith, common_steps); stops = grind (arith, common_steps); told = grind (arith, common_steps) }
+returns-in-Ok-None g c = record { failed = tt; rest = grind (arith, common_steps); stops = grind (arith, common_steps); told = grind (arith, common_steps); unfailed_writes = c.fronts.invariant.unfailed_writes }
 
 pub returns-in-Err-CutOff : goal.returns-in-Err-CutOff
-returns-in-Err-CutOff g c = record { failed = tt; rest = grind (arith, common_steps); stops = grind (arith, common_steps); told = grind (arith, common_steps) }
+returns-in-Err-CutOff g c = record { failed = tt; rest = grind (arith, common_steps); stops = grind (arith, common_steps); told = grind (arith, common_steps); unfailed_writes = c.fronts.invariant.unfailed_writes }
