@@ -21,8 +21,8 @@ use packet::link::LinkType;
 use packet::link_layers::LinkLayers;
 use packet_parts::ip_slice::{IpHeaderSlice, IpSlice, LaxIpSlice};
 
-// Stores the layers of an Ethernet frame, with no verdicts on checksums; `false`, with what it came
-// to, if their reading stops, or in a first fragment without a good header of TCP or UDP.
+// Stores the layers of an Ethernet frame, with no verdicts on checksums; `false`, with some stored,
+// if their reading stops, or in a first fragment without a good header of TCP or UDP.
 #[inline(always)]
 pub(crate) fn put_whole(frame: &[u8], answer: &mut Packet) -> bool
     ensures taken { IsTrue result → GetsAnswer (IsLaxReadingOf LinkType.Ethernet2 frame.now)

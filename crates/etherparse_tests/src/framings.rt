@@ -214,7 +214,7 @@ fn ieee_802_11_carries_packets(rt: HostRuntime) {
 
 #[test]
 fn bridged_frames_carry_packets(rt: HostRuntime) {
-    // Ethernet with a sender whose address ends as an EtherType, after LLC with two bytes of padding.
+    // Ethernet whose source ends like an EtherType; after LLC, 2 bytes of padding come first.
     let ethernet = [2, 0, 0, 0, 0, 3, 2, 0, 0, 0, 8, 0, 8, 0];
     for number in [1, 7] {
         let padded = [0xaa, 0xaa, 3, 0, 0x80, 0xc2, 0, number, 0, 0];

@@ -37,8 +37,8 @@ pub enum VlanHeader {
 /// IPv4 are set when the packet is written.
 #[derive(Clone, Debug, PartialEq, Eq, Drop)]
 pub enum IpHeader {
-    /// That of IPv4, with its options. On a source route in them, the checksum of UDP or TCP is for
-    /// the last address (RFC 791 section 3.1).
+    /// That of IPv4, with its options. If these have a source route, the checksum of UDP or TCP is
+    /// for its last address (RFC 791 section 3.1).
     Ipv4(Ipv4Header),
     /// That of IPv6.
     Ipv6(Ipv6Header),

@@ -121,7 +121,7 @@ pub fn ipv6_pseudo_header(
 
 /// The verdict on the checksum of an IPv4 packet's payload that is no fragment, from both addresses
 /// and the protocol's number. The destination is the final one (RFC 791 section 3.1), as
-/// [`final_destination_ipv4`] gives it. A fragment is not told here. The payload has to end where
+/// [`final_destination_ipv4`] gives it. Fragments are not seen here. The payload has to end where
 /// the total length says, since each of its bytes counts, but those after a UDP datagram. A TCP
 /// segment of more than 65535 bytes is `Wrong`: the pseudo-header cannot say its length.
 ///

@@ -18,8 +18,8 @@ use etherparse_net::Ipv4OptionsIterator;
 /// (RFC 791 section 3.1, types 131 and 137): then it is the last of these addresses. If there are
 /// several source routes, the first one counts.
 ///
-/// A route whose pointer or length does not fit counts as completed. The options are read up to the
-/// first that is cut off or has a length below 2.
+/// A route whose pointer or length does not fit counts as completed. The options end at type 0, or
+/// at one that is cut off or has a length below 2.
 ///
 /// # Example
 ///

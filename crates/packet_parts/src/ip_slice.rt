@@ -230,7 +230,7 @@ impl<'a> IpSlice<'a> {
     /// [`final_destination_ipv4`] and [`final_destination_ipv6`] give it; if that is unknown,
     /// `UnknownDestination` instead of right or wrong.
     ///
-    /// The checksum of a mobile node that is away from home covers its home address (RFC 6275 section
+    /// The checksum of a packet with a home address option covers that address (RFC 6275 section
     /// 11.3.1), not the source, and is found `Wrong`.
     ///
     /// The payload is taken for whole: for [`LaxIpSlice::slice`] there is [`LaxIpSlice::verdict`].
