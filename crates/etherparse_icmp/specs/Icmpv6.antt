@@ -77,8 +77,9 @@ HasIcmpv6Rest NeighborSolicitation rest = Unit {0}
 HasIcmpv6Rest (NeighborAdvertisement header) rest = HasNeighborAdvertisement header rest
 HasIcmpv6Rest Redirect rest = Unit {0}
 
--- The same bytes with those 0 that the type does not use here. Other standards use some: for a length
--- in the types 1 and 3 (RFC 4884), and in a router advertisement for flags (RFC 4191, RFC 6275).
+-- The same bytes with those 0 that the type does not use here. Other standards use some: for a
+-- length in the types 1 and 3 (RFC 4884), and in a router advertisement for flags (RFC 4191, RFC
+-- 6275).
 abbrev pub icmpv6_cleared : Icmpv6Type → List ℕ → List ℕ
 icmpv6_cleared (DestinationUnreachable code) rest = 0 ∷ 0 ∷ 0 ∷ 0 ∷ []
 icmpv6_cleared (TimeExceeded code) rest = 0 ∷ 0 ∷ 0 ∷ 0 ∷ []

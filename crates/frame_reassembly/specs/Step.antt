@@ -31,8 +31,9 @@ reassembly_timeout = 60 * 10 ^ 9
 abbrev pub begins : List IpDefragSlot → Added → Bool
 begins old added = is_none (slot_at old added.slot).id || is_some added.given_up
 
--- The slot is taken from its datagram, and all else in it stays. It tells nothing of the datagram any
--- more: a fragment of it that comes again begins another one, unless a second slot came with its id.
+-- The slot is taken from its datagram, and all else in it stays. It tells nothing of the datagram
+-- any more: a fragment of it that comes again begins another one, unless a second slot came with
+-- its id.
 pub record IsReleased (k : ℕ) (old new : List IpDefragSlot) : Type 0 where
   pub others : AreSameBut k old new
   pub free : slot_at new k ≡ record (slot_at old k) { id = None }

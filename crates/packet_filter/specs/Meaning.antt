@@ -73,9 +73,9 @@ IsIp v packet = MatchOption packet.net (packet.ether_type ≡ Some (ether_type_o
     (λ ip. HasVersion v ip.header)
 
 -- The payload of the IP packet, after all extension headers, has this number (IANA's protocol
--- numbers). In a later fragment over IPv6 it is the number that its fragment header has: that of the
--- first header that was cut into fragments, which can be an extension header (RFC 8200 section 4.5).
--- If the packet ends within an extension header, it is the number of that.
+-- numbers). In a later fragment over IPv6 it is the number that its fragment header has: that of
+-- the first header that was cut into fragments, which can be an extension header (RFC 8200 section
+-- 4.5). If the packet ends within an extension header, it is the number of that.
 abbrev pub HasProto : Option Version → ℕ → SlicedPacket → Type 0
 HasProto None number packet = IsSomeAnd packet.net (λ ip. ip.upper ≡ number)
 HasProto (Some v) number packet =

@@ -54,8 +54,8 @@ is_unnumbered place frame =
     nat_le (length frame) place || (is_set 0 place frame && is_set 1 place frame)
 
 -- LLC at a place: the addresses of the destination's and of the source's protocol, and one or two
--- bytes of control (IEEE 802.2 section 3.2). After aa aa 03 comes SNAP, in which a bridged frame has
--- two bytes of padding (RFC 2684 section 5.2), and after 06 06 03 an IP packet (RFC 948).
+-- bytes of control (IEEE 802.2 section 3.2). After aa aa 03 comes SNAP, in which a bridged frame
+-- has two bytes of padding (RFC 2684 section 5.2), and after 06 06 03 an IP packet (RFC 948).
 abbrev pub llc_header : ℕ → List ℕ → Header
 llc_header place frame =
     if has 0xaa place frame && has 0xaa (place + 1) frame && has 0x03 (place + 2) frame

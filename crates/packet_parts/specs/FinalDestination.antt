@@ -1,6 +1,6 @@
--- The final destination of a packet, which its checksums cover. A source route of IPv4 and a routing
--- header of IPv6 send a packet over several stops. On the way, the destination of the header is the
--- next stop. Shim6 hides the addresses that are covered.
+-- The final destination of a packet, which its checksums cover. A source route of IPv4 and a
+-- routing header of IPv6 send a packet over several stops. On the way, the destination of the
+-- header is the next stop. Shim6 hides the addresses that are covered.
 use Rattle.std.specs.Prelude.{ℕ, ◌≡◌, ◌+◌, ◌-◌, ◌*◌, ◌/◌, ◌%◌, ◌<◌, ◌≤◌, ◌==◌, ◌&&◌, ◌||◌, not}
 use Rattle.std.specs.Prelude.{Bool, List, ◌++◌, drop, find, length, slice_index, slice_range, take}
 use Rattle.std.specs.Prelude.{Option, Result, Some, None, if◌then◌else◌, nat_le}
@@ -15,8 +15,8 @@ use Rattle.etherparse_net.specs.declared.err.ipv4_option_error.Ipv4OptionError.{
 abbrev pub is_source_route : List ℕ → Bool
 is_source_route option = (slice_index option 0 == 131) || (slice_index option 0 == 137)
 
--- After the type and the length of a source route, byte 2 is a pointer, and then come addresses. The
--- pointer is the place of the next one to be visited, counted from 1: 4, 8 and so on.
+-- After the type and the length of a source route, byte 2 is a pointer, and then come addresses.
+-- The pointer is the place of the next one to be visited, counted from 1: 4, 8 and so on.
 abbrev pub pointer : List ℕ → ℕ
 pointer route = slice_index route 2
 
@@ -40,8 +40,8 @@ after_route destination (Some route) = if has_addresses_left route
     then slice_range route (length route - 4) (length route) else destination
 after_route destination None = destination
 
--- the final destination of a packet of IPv4, from the destination of its header and the bytes of its
--- options
+-- the final destination of a packet of IPv4, from the destination of its header and the bytes of
+-- its options
 pub record GoesToIpv4 (destination bytes final : List ℕ) : Type 0 where
   pub route : Option (List ℕ)
   pub has_route : HasFirstRoute bytes route
@@ -106,8 +106,8 @@ last_address destination header =
     else (if slice_index header 2 == 3 then last_compressed destination header
     else (if slice_index header 2 == 4 then first_in_list header else None)))
 
--- a payload header of Shim6 (140): bit 7 of byte 2 is set. Its receiver puts addresses that only the
--- two hosts know into the IPv6 header (RFC 5533 section 5.2)
+-- a payload header of Shim6 (140): bit 7 of byte 2 is set. Its receiver puts addresses that only
+-- the two hosts know into the IPv6 header (RFC 5533 section 5.2)
 abbrev pub hides_addresses : ℕ → List ℕ → Bool
 hides_addresses number header = (number == 140) && nat_le 128 (slice_index header 2)
 

@@ -155,8 +155,8 @@ KeepsRightIpv4 slice header next payload = (old new : List ℕ)
     → IsVerdictIpv4 header.source old slice.upper slice.payload.now Right
     → IsVerdictIpv4 next.source new slice.upper payload Right
 
--- An IPv4 packet has another address, at an offset in its header. The header checksum is updated for
--- it, that of the payload by `Updates`. What the link added after the packet stays.
+-- An IPv4 packet has another address, at an offset in its header. The header checksum is updated
+-- for it, that of the payload by `Updates`. What the link added after the packet stays.
 pub record ReaddressesIpv4 (Updates : IpSlice → Ipv4Header → Reach → List ℕ → Type 0)
     (offset : ℕ) (address before after : List ℕ) (reach : Reach) : Type 0 where
   pub slice : IpSlice
