@@ -53,19 +53,26 @@ def ones_complement_sum(data):
     return total
 
 
-def pseudo_header(parts, number, length, destination=None):
+def pseudo_header(parts, number, length, ends=None):
     """RFC 768 and RFC 9293 section 3.1; RFC 8200 section 8.1"""
     tells = (struct.pack('!xBH', number, length) if parts['version'] == 4
              else struct.pack('!I3xB', length, number))
-    return parts['source'] + (destination or parts['destination']) + tells
+    source, destination = ends or (parts['source'], parts['destination'])
+    return source + destination + tells
+
+
+def ends_of(parts):
+    """the source and the destination that a checksum covers; None if one is not known"""
+    ends = parts['original'], parts['final']
+    return None if None in ends else ends
 
 
 def is_all_ones(parts, number, datagram):
-    """whether the words of a datagram and its pseudo-header sum to all ones: that of the final
-    destination, of which no receiver is known if that is not"""
-    final = parts['final']
-    return final is not None and ones_complement_sum(
-        pseudo_header(parts, number, len(datagram), final) + datagram) == 0xffff
+    """whether the words of a datagram and its pseudo-header sum to all ones, between the original
+    source and the final destination; no if one is not known"""
+    ends = ends_of(parts)
+    return ends is not None and ones_complement_sum(
+        pseudo_header(parts, number, len(datagram), ends) + datagram) == 0xffff
 
 
 def stops_of(header):
@@ -129,6 +136,30 @@ def final_destination(destination, chain, body):
                 return None
             destination = destination[:16 - len(stops[-1])] + stops[-1]
     return destination
+
+
+def original_source(source, chain, body):
+    """the original source of a packet, by its Home Address options, or None: RFC 6275 sections 6.3
+    and 11.3.1; a payload header of Shim6 leaves that to its receiver"""
+    for number, place in chain:
+        header = body[place:place + extension_len(number, body[place:])]
+        if number == 140 and header[2] >> 7:
+            return None
+        if number == 60:
+            for option in options_of(header):
+                if option[0] == 201 and len(option) == 18:
+                    source = option[2:]
+    return source
+
+
+def options_of(header):
+    """the options of a header that are whole: RFC 8200 section 4.2"""
+    place = 2
+    while place < len(header):
+        length = 1 if header[place] == 0 else 2 + (header[place + 1:place + 2] or b'\xff')[0]
+        if place + length <= len(header):
+            yield header[place:place + length]
+        place += length
 
 
 def read_header4(packet):
@@ -237,7 +268,7 @@ def read_packet(packet):
     parts.update(body=packet[front:end], behind=packet[front:])
     if version == 4:
         return dict(parts, upper=parts['protocol'], payload=parts['body'], place=front,
-                    is_fragment=is_part(parts),
+                    is_fragment=is_part(parts), original=parts['source'],
                     final=past_source_route(parts['destination'], parts['options']))
     try:
         chain, upper, place = read_extensions(parts['body'], parts['next_header'])
@@ -247,6 +278,7 @@ def read_packet(packet):
     part = find_fragment_header(parts['body'], parts['next_header'], past_atomic=True)
     return dict(parts, upper=upper, payload=parts['body'][place:], place=40 + place, chain=chain,
                 extensions=parts['body'][:place], is_fragment=bool(part),
+                original=original_source(parts['source'], chain, parts['body']),
                 final=final_destination(parts['destination'], chain, parts['body']))
 
 
@@ -459,13 +491,13 @@ def text_of(address):
     return str(ipaddress.ip_address(address))
 
 
-def with_checksum(version, number, datagram, place, change='right', to=None):
+def with_checksum(version, number, datagram, place, change='right', to=None, source=NEAR6):
     """a datagram with the checksum that scapy makes, or with another one"""
     without = datagram[:place] + bytes(2) + datagram[place + 2:]
     if version == 4:
         made = in4_chksum(number, IP(src=text_of(NEAR4), dst=text_of(to or FAR4)), without)
     else:
-        made = in6_chksum(number, IPv6(src=text_of(NEAR6), dst=text_of(to or FAR6)), without)
+        made = in6_chksum(number, IPv6(src=text_of(source), dst=text_of(to or FAR6)), without)
     if number == 17:
         made = made or 0xffff
     made = {'right': made, 'low bit': made ^ 1, 'high bit': made ^ 0x8000, 'none': 0,
@@ -730,6 +762,59 @@ def worked_shim6():
             yield in_ipv6(extension(60, 140) + header + body, 60)
 
 
+def worked_home():
+    home, other = (NEAR6[:15] + bytes([n]) for n in (0xb1, 0xb2))
+
+    def option(address, kind=201):
+        return bytes([kind, len(address)]) + address
+
+    def options(following, inside):
+        """destination options with these, and padding up to a multiple of eight bytes"""
+        left = -(len(inside) + 2) % 8
+        inside += bytes(left) if left < 2 else bytes([1, left - 2]) + bytes(left - 2)
+        return bytes([following, (len(inside) + 2) // 8 - 1]) + inside
+
+    lists = [option(home), bytes([1, 2, 0, 0]) + option(home), bytes(1) + option(home),
+             bytes([5, 2, 0, 0]) + option(home), option(home) + option(other),
+             option(home) + bytes([0, 0, 30, 3, 201, 16, 0]), option(home[:15]),
+             option(home + b'x'), option(b''), option(home, 202), option(home, 200),
+             option(home, 73), bytes([1, 18]) + option(home), option(home) + option(other[:8]),
+             bytes([1, 200]) + option(home), bytes([201])]
+    for inside in lists:
+        for source in NEAR6, home, other:
+            data = with_checksum(6, 17, udp(6, counted(5)), 6, source=source)
+            yield in_ipv6(options(17, inside) + data, 60)
+    # a whole option, and two that are cut off by the end of their header
+    for length in 16, 17, 255:
+        header = bytes([17, 2, 1, 2, 0, 0, 201, length]) + home
+        for source in NEAR6, home:
+            yield in_ipv6(header + with_checksum(6, 17, udp(6, counted(5)), 6, source=source), 60)
+    for source in NEAR6, home, other:
+        for number, place, make in (17, 6, udp), (6, 16, tcp), (58, 2, echo):
+            data = with_checksum(6, number, make(6, counted(3)), place, source=source)
+            yield in_ipv6(options(number, option(home)) + data, 60)
+            # in hop-by-hop options it is none; of two headers the last counts
+            yield in_ipv6(options(number, option(home)) + data, 0)
+            yield in_ipv6(extension(0, 60) + options(60, option(home)) + options(
+                number, option(other)) + data, 0)
+            # before an atomic fragment header, and behind an authentication header
+            yield in_ipv6(options(44, option(home)) + extension(44, number) + data, 60)
+            yield in_ipv6(extension(51, 60, 2) + options(number, option(home)) + data, 51)
+            # a first fragment has no verdict
+            yield in_ipv6(options(44, option(home)) + extension(44, number, 1) + data, 60)
+    # from one mobile node to another
+    to = FAR6[:15] + bytes([0xa1])
+    for source in NEAR6, home:
+        for last in FAR6, to:
+            segment = with_checksum(6, 6, tcp(6, counted(3)), 16, to=last, source=source)
+            yield in_ipv6(routing(60, 2, 1, bytes(4) + to) + options(6, option(home)) + segment, 43)
+            yield in_ipv6(options(43, option(home)) + routing(6, 2, 1, bytes(4) + to) + segment, 60)
+    # Shim6 hides the addresses, or is a control message
+    for front in (options(140, option(home)) + bytes([17, 0, 0x80, 0, 1, 2, 3, 4]),
+                  options(140, option(home)) + bytes([17, 0, 0, 0, 1, 2, 3, 4])):
+        yield in_ipv6(front + with_checksum(6, 17, udp(6, counted(5)), 6, source=home), 60)
+
+
 def worked():
     for version in 4, 6:
         for make in worked_udp, worked_tcp, worked_echoes:
@@ -739,6 +824,7 @@ def worked():
     yield from worked_routing()
     yield from worked_source_routes()
     yield from worked_shim6()
+    yield from worked_home()
 
 
 # What others tell of the same packets.
@@ -781,12 +867,12 @@ def ask_scapy(packet, read):
     ends = dict(src=text_of(parts['source']), dst=text_of(parts['destination']))
     ask_scapy_of_header(packet, parts, bare(packet), ends)
     sum_of = in4_chksum if parts['version'] == 4 else in6_chksum
-    last = dict(ends, dst=parts['final'] and text_of(parts['final']))
+    last = ends_of(parts) and bare(**dict(zip(('src', 'dst'), map(text_of, ends_of(parts)))))
     if 'udp' in read:
         ask_scapy_of_udp(packet, parts, read['udp'], sum_of, lambda: bare(**ends, **{number: 17}),
-                         last['dst'] and bare(**last))
+                         last)
     if 'tcp' in read:
-        is_right = bool(last['dst']) and sum_of(6, bare(**last), parts['payload']) == 0
+        is_right = bool(last) and sum_of(6, last, parts['payload']) == 0
         agree('scapy', 'TCP checksum', packet, is_right, read['tcp']['right'])
         ask_scapy_of_tcp(packet, TCP(parts['payload']), read['tcp'])
     if read.get('echo', {}).get('reply'):
@@ -1010,7 +1096,8 @@ def agree_on_status(name, packet, status, read, parts):
     TCP wrote 0xffff for 0, tshark calls it bad, for what RFC 1624 says to senders; the receiver's
     sum is all ones, which RFC 1071 section 1 calls right. By a routing header that is malformed or
     of an unknown type tshark goes to an address all the same, also by a source route whose length
-    does not fit, and a payload header of Shim6 it passes.
+    does not fit, and a payload header of Shim6 it passes. It takes a home address from any option of
+    type 201, whatever its length, also in hop-by-hop options.
     """
     if status is None or 'right' not in read or name == 'TCP' and read['checksum'] == 0xffff:
         return
@@ -1019,6 +1106,9 @@ def agree_on_status(name, packet, status, read, parts):
         return
     if parts['version'] == 4 and has_odd_route(parts['options']):
         tally['not asked of tshark', 'a source route with a part of an address'] += 1
+        return
+    if parts['version'] == 6 and has_odd_home(parts['chain'], parts['body']):
+        tally['not asked of tshark', 'a home address where none can be'] += 1
         return
     status = STATUS[number_of(status)]
     if status != 'unverified':
@@ -1030,6 +1120,18 @@ def has_odd_route(options):
     """a source route that ends within an address"""
     return any(kind in (131, 137) and 3 < length < len(options) - i + 1 and length % 4 != 3
                for i, (kind, length) in enumerate(zip(options, options[1:])))
+
+
+def has_odd_home(chain, body):
+    """whether an option of type 201 is no Home Address option, by its length or its header"""
+    for number, place in chain:
+        header = body[place:place + extension_len(number, body[place:])]
+        kinds = [(option[0], len(option)) for option in options_of(header)]
+        there = sum(length for _, length in kinds)
+        if number in (0, 60) and (header[2 + there:3 + there] == bytes([201]) or any(
+                kind == 201 and (number == 0 or length != 18) for kind, length in kinds)):
+            return True
+    return False
 
 
 def ask_tshark_of_made(made):

@@ -7,9 +7,10 @@
 //! nothing.
 //!
 //! A new destination updates a checksum for the final one (RFC 791 section 3.1, RFC 8200 section
-//! 8.1), unless a source route or a routing header keeps that, or it is unknown. A right checksum
-//! can become wrong by a new IPv6 source with a home address option or with Shim6, and by any new
-//! address for a protocol unknown here.
+//! 8.1), unless a source route or a routing header keeps that, or it is unknown. A new IPv6 source
+//! updates it for the original one, unless a Home Address option keeps that (RFC 6275 section
+//! 11.3.1) or Shim6 hides it. The checksums of protocols but UDP, TCP and ICMPv6, and of mobility
+//! and host identity headers (135, 139), are left as they are.
 //!
 //! A checksum and a port are numbers whose high byte comes first in the packet.
 
@@ -96,8 +97,8 @@ errors! {
 /// How far the change of an address reaches in a packet.
 #[derive(Clone, Copy, Debug, PartialEq, Eq, Hash)]
 pub enum Reach {
-    /// Into the header of UDP, TCP or, over IPv6, ICMPv6, whose checksum is updated too, unless a
-    /// new destination leaves the final one the same or unknown.
+    /// Into the header of UDP, TCP or, over IPv6, ICMPv6, whose checksum is updated too, unless the
+    /// address that it covers stays the same or is unknown.
     Upper,
     /// It ends with the IP header: the payload is a later fragment. No checksum in it is updated,
     /// though that of TCP can be there if the first fragment is short.
@@ -192,7 +193,7 @@ checksums! {
 
     /// The checksum that a segment should have over IPv6 (RFC 8200 section 8.1), as
     /// [`calc_checksum_ipv4`] has it over IPv4: that of UDP, TCP or ICMPv6 (RFC 4443 section 2.3).
-    /// The destination is the final one.
+    /// The source is the original one, the destination the final one.
     ///
     /// # Errors
     ///

@@ -6,8 +6,8 @@ use core::fmt;
 ///
 /// The packets that a host sends look wrong in a capture on that host if its network card computes
 /// their checksums. The destination is the final one (RFC 791 section 3.1, RFC 8200 section 8.1).
-/// Home address options are not looked into: a checksum whose pseudo-header has an address of these
-/// is found wrong.
+/// The source is the original one: over IPv6 the home address, if destination options have a Home
+/// Address option (RFC 6275 section 11.3.1).
 #[derive(Clone, Copy, Debug, PartialEq, Eq, Hash)]
 pub enum Verdict {
     /// It is right.

@@ -51,8 +51,8 @@ pub struct ChecksumAnswer {
 pub struct ReachAnswer {
     /// The number of the error, or 0.
     pub error: u32,
-    /// 1 if the checksum of the upper layer is updated too, unless a new destination leaves the
-    /// final one the same or unknown; 2 if the payload is a later fragment; 3 if its protocol is
+    /// 1 if the checksum of the upper layer is updated too, unless the address that it covers stays
+    /// the same or is unknown; 2 if the payload is a later fragment; 3 if its protocol is
     /// unknown, or its checksum does not cover the addresses; 0 if there is an error.
     pub reach: u32,
 }

@@ -93,6 +93,17 @@ size_t make_chain(uint8_t *at, uint8_t number, uint8_t upper)
             else if (below(2) == 0)
                 at[len + 4] = (uint8_t)(17 * below(16));
         }
+        /* Padding of 0 to 4 bytes, and a Home Address option, whose length is most often 16. */
+        if (number == 60 && words == 2 && below(4) != 0) {
+            size_t padding = below(5);
+            at[len + 2] = 1;
+            at[len + 3] = 0;
+            memset(at + len + 2, 0, padding < 2 ? padding : 0);
+            if (padding >= 2)
+                at[len + 3] = (uint8_t)(padding - 2);
+            at[len + 2 + padding] = 0xc9;
+            at[len + 3 + padding] = (uint8_t)(below(8) == 0 ? below(24) : 16);
+        }
         number = SKIPPABLE[below(8)];
         at[len] = count == 1 ? upper : number;
         at[len + 1] = words;
@@ -146,6 +157,7 @@ static void complete(uint8_t version, const uint8_t *header, size_t header_len, 
     }
     if (version == 6) {
         memcpy(pseudo, header + 8, 32);
+        reference_original_source(header[6], header + 40, header_len - 40, pseudo);
         reference_final_destination(header[6], header + 40, header_len - 40, pseudo + 16);
         put(pseudo + 32, 8, (uint64_t)len << 32 | upper);
     }

@@ -28,6 +28,8 @@ void reference_source_route(const uint8_t *options, size_t len, uint8_t *destina
 /* The final destination of an IPv6 packet by whole extension headers, of which the first has this number, in place of its
  * destination (RFC 8200 section 8.1); whether it is known. */
 bool reference_final_destination(uint8_t number, const uint8_t *headers, size_t len, uint8_t *destination);
+/* Its original source by the same headers, in place of its source (RFC 6275 section 11.3.1); whether it is known. */
+bool reference_original_source(uint8_t number, const uint8_t *headers, size_t len, uint8_t *source);
 struct etherparse_ipv6_walk_answer reference_ipv6_skip(const uint8_t *at, size_t len, uint8_t next_header);
 struct etherparse_ipv6_walk_answer reference_ipv6_walk(const uint8_t *at, size_t len, uint8_t next_header);
 struct etherparse_ipv6_walk_answer reference_ipv6_walk_up_to(const uint8_t *at, size_t len, uint8_t next_header, size_t limit);

@@ -95,6 +95,31 @@ bool reference_final_destination(uint8_t number, const uint8_t *headers, size_t 
     return true;
 }
 
+bool reference_original_source(uint8_t number, const uint8_t *headers, size_t len, uint8_t *source)
+{
+    for (size_t at = 0; at < len;) {
+        struct etherparse_ipv6_walk_answer walk = reference_ipv6_skip(headers + at, len - at, number);
+        size_t next = at + walk.rest.offset;
+        if (number == 140 && headers[at + 2] > 127)
+            return false;
+        /* RFC 8200 section 4.2: Pad1 has no length; RFC 6275 section 6.3: the option has 16 bytes of data */
+        for (size_t option = at + 2; number == 60 && option < next;) {
+            if (headers[option] == 0) {
+                option++;
+                continue;
+            }
+            if (next - option < 2 || next - option - 2 < headers[option + 1])
+                break;
+            if (headers[option] == 0xc9 && headers[option + 1] == 16)
+                memcpy(source, headers + option + 2, 16);
+            option += 2 + (size_t)headers[option + 1];
+        }
+        number = walk.next_header;
+        at = next;
+    }
+    return true;
+}
+
 /* What a receiver finds of the checksum of a payload that is whole and no fragment (RFC 768, RFC 9293 section 3.1, RFC 792, RFC
  * 4443 section 2.3, RFC 8200 section 8.1). The header is that of the IP packet, and options or extension headers follow it. */
 static uint8_t verdict_on(uint8_t version, const uint8_t *header, size_t extensions_len, uint8_t upper, const uint8_t *payload,
@@ -123,7 +148,8 @@ static uint8_t verdict_on(uint8_t version, const uint8_t *header, size_t extensi
     }
     if (version == 6) {
         memcpy(pseudo, header + 8, 32);
-        if (!reference_final_destination(header[6], header + 40, extensions_len, pseudo + 16))
+        if (!reference_original_source(header[6], header + 40, extensions_len, pseudo)
+            || !reference_final_destination(header[6], header + 40, extensions_len, pseudo + 16))
             return ETHERPARSE_UNKNOWN_DESTINATION;
         if (upper == 17 && bits_at(payload, 48, 16) == 0)
             return ETHERPARSE_WRONG;

@@ -128,23 +128,28 @@ static uint16_t header_checksum(const uint8_t *header, size_t len)
     return (uint16_t)~sum_words(sum_words(0, header, 10), header + 12, len - 12);
 }
 
-/* The addresses that a checksum covers, one after the other; whether they are known. */
-static bool covered_addresses(const uint8_t *packet, const struct etherparse_packet_ip *ip, uint8_t *addresses)
+/* The source and the destination that a checksum covers, one after the other, and whether each is known. */
+static void covered_addresses(const uint8_t *packet, const struct etherparse_packet_ip *ip, uint8_t *addresses, bool known[2])
 {
     memcpy(addresses, packet + (ip->version == 4 ? 12 : 8), ip->version == 4 ? 8 : 32);
-    if (ip->version == 4)
+    known[0] = known[1] = true;
+    if (ip->version == 4) {
         reference_source_route(packet + 20, ip->header.len - 20, addresses + 4);
-    return ip->version == 4 || reference_final_destination(packet[6], packet + 40, ip->extensions.len, addresses + 16);
+        return;
+    }
+    known[0] = reference_original_source(packet[6], packet + 40, ip->extensions.len, addresses);
+    known[1] = reference_final_destination(packet[6], packet + 40, ip->extensions.len, addresses + 16);
 }
 
 /* The checksum of the upper layer of a packet, from all that it covers; 0x10000 if not all of it is there. */
 static uint32_t upper_checksum(const uint8_t *packet, const struct etherparse_packet_ip *ip)
 {
     uint8_t addresses[32];
-    bool known = covered_addresses(packet, ip, addresses);
+    bool known[2];
+    covered_addresses(packet, ip, addresses, known);
     struct etherparse_checksum_answer answer = reference_checksum(ip->version, addresses, addresses + (ip->version == 4 ? 4 : 16),
         ip->upper, packet + ip->payload.offset, ip->payload.len);
-    return ip->is_fragment || !known || answer.error != ETHERPARSE_REWRITING_OK ? 0x10000 : answer.checksum;
+    return ip->is_fragment || !known[0] || !known[1] || answer.error != ETHERPARSE_REWRITING_OK ? 0x10000 : answer.checksum;
 }
 
 /* Writes other bytes at a place in a packet, and the checksums that cover them. */
@@ -154,10 +159,13 @@ static void change(uint8_t *packet, const struct etherparse_packet_ip *ip, size_
     uint8_t old_bytes[16], old_addresses[32], new_addresses[32];
     size_t header_len = ip->header.len, upper_place = ip->payload.offset + checksum_place(ip->upper);
     uint16_t header = 0, upper = 0;
-    bool header_was_computed = false, upper_was_computed = false, known = covered_addresses(packet, ip, old_addresses);
+    bool header_was_computed = false, upper_was_computed = false, known[2];
     size_t address_len = ip->version == 4 ? 4 : 16;
-    bool is_destination = place == (ip->version == 4 ? 16 : 24);
-    uint8_t *old_final = old_addresses + address_len, *new_final = new_addresses + address_len;
+    bool is_source = ip->version == 6 && place == 8, is_destination = place == (ip->version == 4 ? 16 : 24);
+    bool is_address = is_source || is_destination;
+    uint8_t *old_covered = old_addresses + (is_source ? 0 : address_len);
+    uint8_t *new_covered = new_addresses + (is_source ? 0 : address_len);
+    covered_addresses(packet, ip, old_addresses, known);
     if (in_header) {
         header = number_at(packet + 10);
         header_was_computed = header == header_checksum(packet, header_len);
@@ -171,12 +179,12 @@ static void change(uint8_t *packet, const struct etherparse_packet_ip *ip, size_
     if (in_header)
         put_number(packet + 10,
             next_checksum(header, header_was_computed, header_checksum(packet, header_len), old_bytes, bytes, len));
-    covered_addresses(packet, ip, new_addresses);
+    covered_addresses(packet, ip, new_addresses, known);
     /* A UDP checksum of 0 says that there is none, and one that would be 0 is sent as all ones (RFC 768). */
     if (in_upper && !(ip->upper == UDP && upper == 0)
-        && !(is_destination && (!known || memcmp(old_final, new_final, address_len) == 0))) {
+        && !(is_address && (!known[is_destination] || memcmp(old_covered, new_covered, address_len) == 0))) {
         uint16_t next = next_checksum(upper, upper_was_computed, (uint16_t)upper_checksum(packet, ip),
-            is_destination ? old_final : old_bytes, is_destination ? new_final : bytes, len);
+            is_address ? old_covered : old_bytes, is_address ? new_covered : bytes, len);
         put_number(packet + upper_place, ip->upper == UDP && next == 0 ? 0xffff : next);
     }
 }

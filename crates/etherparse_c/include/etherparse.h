@@ -513,9 +513,9 @@ struct etherparse_packet_transport {
     uint8_t icmp_code;
 };
 
-/* What a receiver finds of a checksum: the receiver at the final destination (RFC 791 section 3.1,
- * RFC 8200 section 8.1). Home address options are not looked into: a checksum whose pseudo-header
- * has an address of these is found wrong. */
+/* What the receiver at the final destination (RFC 791 section 3.1, RFC 8200 section 8.1) finds of
+ * a checksum. The source is the original one: over IPv6 the home address, if destination options
+ * have a Home Address option (RFC 6275 section 11.3.1). */
 enum {
     ETHERPARSE_NOT_JUDGED = 0, /* it was not asked for, or there is no such header or packet */
     ETHERPARSE_RIGHT = 1,

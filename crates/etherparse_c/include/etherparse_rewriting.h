@@ -71,7 +71,7 @@ struct etherparse_checksum_answer {
  * since 0 says that there is none.
  *
  * The segment has to end where the packet's length field says; a UDP datagram ends where its own
- * length field says: set that first. The destination is the final one.
+ * length field says: set that first. The source is the original one, the destination the final.
  *
  * Errors: OTHER_PROTOCOL, INCOMPLETE, TOO_LONG. */
 struct etherparse_checksum_answer etherparse_checksum_ipv4(const uint8_t source[4],
@@ -90,14 +90,15 @@ uint32_t etherparse_set_checksum_ipv6(const uint8_t source[16], const uint8_t de
  * which says that there is none, stays 0. What comes after the packet stays.
  *
  * A new destination updates a checksum for the final one (RFC 791 section 3.1, RFC 8200 section
- * 8.1), unless a source route or a routing header keeps that, or it is unknown. A right checksum
- * can become wrong by a new IPv6 source with a home address option or with Shim6, and by any new
- * address for a protocol unknown here. */
+ * 8.1), unless a source route or a routing header keeps that, or it is unknown. A new IPv6 source
+ * updates it for the original one, unless a Home Address option keeps that (RFC 6275 section
+ * 11.3.1) or Shim6 hides it. The checksums of protocols but UDP, TCP and ICMPv6, and of mobility
+ * and host identity headers (135, 139), are left as they are. */
 
 /* How far the change of an address reaches. */
 enum {
-    /* the checksum of UDP, TCP or, over IPv6, ICMPv6 is updated too, unless a new destination
-     * leaves the final one the same or unknown */
+    /* the checksum of UDP, TCP or, over IPv6, ICMPv6 is updated too, unless the address that it
+     * covers stays the same or is unknown */
     ETHERPARSE_REACH_UPPER = 1,
     /* the payload is a later fragment: no checksum in it is updated, though that of TCP can be
      * there if the first fragment is short */

@@ -64,7 +64,8 @@ impl Icmpv6Header {
 
     /// A header of this type with the checksum of a message that has this payload, between these
     /// addresses. In a packet with a routing header, the destination has to be the last one (RFC
-    /// 8200 section 8.1).
+    /// 8200 section 8.1); with a Home Address option, the source has to be the home address (RFC
+    /// 6275 section 11.3.1).
     ///
     /// # Errors
     ///

@@ -121,8 +121,9 @@ impl<'a> Icmpv6Slice<'a> {
 
     /// Whether the checksum is right for a message between these addresses (RFC 4443 section 2.3).
     /// In a packet with a routing header, the destination has to be the last one (RFC 8200 section
-    /// 8.1). A message longer than 4294967295 bytes has no right one: a pseudo-header cannot count
-    /// them.
+    /// 8.1); with a Home Address option, the source has to be the home address (RFC 6275 section
+    /// 11.3.1). A message longer than 4294967295 bytes has no right one: a pseudo-header cannot
+    /// count them.
     pub fn is_checksum_valid(&self, source: [u8; 16], destination: [u8; 16]) -> bool
         ensures right { IsTrue result ↔ IsRightIpv6 source destination 58 self.now.slice.now }
     {

@@ -122,7 +122,8 @@ impl UdpHeader {
 
     /// Sets the checksum of a datagram over IPv6, as [`UdpHeader::set_checksum_ipv4`] does. With a
     /// routing header, set [`UdpHeader::calc_checksum_ipv6_raw`] with the final destination instead
-    /// (RFC 8200 section 8.1).
+    /// (RFC 8200 section 8.1), and if there is a Home Address option, with the home address as
+    /// source (RFC 6275 section 11.3.1).
     ///
     /// # Example
     ///

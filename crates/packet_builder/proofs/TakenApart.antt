@@ -67,7 +67,8 @@ use Rattle.packet_parts.proofs.IpParts.{packet_len_4, packet_len_6}
 use Rattle.packet_parts.specs.Checksum.{Covers, IsVerdict, IsVerdictOver, IsWithoutChecksum, ipv4_pieces, ipv6_pseudo_header, udp_checksum, udp_length}
 use Rattle.packet_parts.specs.Extensions.{at_front}
 use Rattle.packet_parts.proofs.FinalDestinations.{goes_somewhere_ipv4}
-use Rattle.packet_parts.specs.FinalDestination.{GoesToIpv4, arrives}
+use Rattle.packet_parts.specs.CoveredAddresses.{arrives}
+use Rattle.packet_parts.specs.FinalDestination.{GoesToIpv4}
 use Rattle.packet_parts.specs.IpSlice.{HasIpParts, IpHeaderParts, IsWhole, header_len_of, header_parts, ip_parts}
 use Rattle.packet_parts.specs.declared.checksum.Verdict.TheVariants.{Right}
 use Rattle.packet_parts.specs.declared.ip_slice.IpHeaderSlice.{IpHeaderSlice}
@@ -449,7 +450,7 @@ counted_4 given made protocol len bytes before is =
 counted_6 : (made : Ipv6Header) (bytes : List ℕ) → IsIpv6Layout made bytes → made.payload_length < 2 ^ 16
 counted_6 made bytes is = grind (arith, common_steps, is.are_bytes 4, is.are_bytes 5)
 
--- a segment sums to all ones with the pseudo-header between the source of an IP header and the final destination
+-- a segment sums to all ones with the pseudo-header between the source and the final destination
 abbrev SumsRight : ℕ → List ℕ → IpHeader → Type 0
 SumsRight protocol upper (ip.Ipv4 h) = (final : List ℕ) × GoesToIpv4 h.destination h.options final × (ones_complement_sum (ipv4_pieces h.source final protocol upper) ≡ 65535)
 SumsRight protocol upper (ip.Ipv6 h) = ones_complement_sum (ipv6_pseudo_header h.source h.destination protocol (length upper) ∷ upper ∷ []) ≡ 65535
@@ -488,7 +489,9 @@ found_right (ip.Ipv6 given) (ip.Ipv6 made) protocol ip_bytes upper is before cov
     let source = is.source ∙ ap (λ h. h.source) before in
     let destination = is.destination ∙ ap (λ h. h.destination) before in
     let next = is.next_header ∙ ap (λ h. h.next_header) before in (
+      Some (slice_range ip_bytes 8 24),
       Some (slice_range ip_bytes 24 40),
+      arrives (λ skippable. covered_is_no_extension protocol upper covers (rw next at skippable)),
       arrives (λ skippable. covered_is_no_extension protocol upper covers (rw next at skippable)),
       (
         upper,

@@ -3,8 +3,9 @@ use Rattle.std.proofs.Common.{◌≡◌, ◌≢◌, ℕ, List, Option, Some, Non
 use Rattle.packet.specs.SlicedPacket.{IsVerdictOn}
 use Rattle.packet.specs.declared.error.SliceError.{SliceError}
 use Rattle.packet.specs.declared.error.SliceError.TheVariants as error
-use Rattle.packet_parts.specs.Checksum.{Covers, IsVerdictIpv4, IsVerdictIpv6, IsVerdictOver, IsVerdictTo, IsWithoutChecksum, IsRightIpv4, IsRightIpv6}
+use Rattle.packet_parts.specs.Checksum.{Covers, IsVerdictIpv4, IsVerdictIpv6, IsVerdictBetween, IsVerdictOver, IsWithoutChecksum, IsRightIpv4, IsRightIpv6}
 use Rattle.packet_parts.proofs.FinalDestinations.{goes_once_ipv6, goes_once_ipv4}
+use Rattle.packet_parts.proofs.OriginalSources.{comes_once_ipv6}
 use Rattle.packet_parts.specs.IpSlice.{destination_of, source_of}
 use Rattle.packet_parts.specs.declared.checksum.Absence.TheVariants as absence
 use Rattle.packet_parts.specs.declared.checksum.Verdict.{Verdict}
@@ -42,17 +43,19 @@ ipv6_wrong s d p payload (Absent absence.OtherProtocol) (a, j, n) v = absurd (no
 ipv6_wrong s d p payload (Absent absence.Incomplete) (a, j, n) v = absurd (v.1 a j)
 ipv6_wrong s d p payload (Absent absence.NotComputed) w v = absurd v
 
-to_wrong : (source : List ℕ) (final : Option (List ℕ)) (number : ℕ) (payload : List ℕ) (v : Verdict) → IsVerdictTo source final number payload Wrong → IsVerdictTo source final number payload v → v ≡ Wrong
-to_wrong source None number payload v w h = absurd w
-to_wrong source (Some destination) number payload v w h = ipv6_wrong source destination number payload v w h
+between_wrong : (source final : Option (List ℕ)) (number : ℕ) (payload : List ℕ) (v : Verdict) → IsVerdictBetween source final number payload Wrong → IsVerdictBetween source final number payload v → v ≡ Wrong
+between_wrong None final number payload v w h = absurd w
+between_wrong (Some source) None number payload v w h = absurd w
+between_wrong (Some source) (Some destination) number payload v w h = ipv6_wrong source destination number payload v w h
 
 over_wrong : (h : IpHeaderSlice) (extensions : List ℕ) (number : ℕ) (payload : List ℕ) (v : Verdict) → IsVerdictOver h extensions number payload Wrong → IsVerdictOver h extensions number payload v → v ≡ Wrong
 over_wrong (header.Ipv4 view) extensions number payload v (a, goes, w) (b, other, h) =
     let same = goes_once_ipv4 (destination_of (header.Ipv4 view)) (drop 20 view.slice.now) a b goes other in
     ipv4_wrong (source_of (header.Ipv4 view)) a number payload v w (subst (λ d. IsVerdictIpv4 (source_of (header.Ipv4 view)) d number payload v) same h)
-over_wrong (header.Ipv6 view) extensions number payload v (a, goes, w) (b, other, h) =
-    let same = goes_once_ipv6 (destination_of (header.Ipv6 view)) (slice_index view.slice.now 6) extensions b a other goes in
-    to_wrong (source_of (header.Ipv6 view)) a number payload v w (subst (λ d. IsVerdictTo (source_of (header.Ipv6 view)) d number payload v) same h)
+over_wrong (header.Ipv6 view) extensions number payload v (a, b, comes, goes, w) (c, d, others, other, h) =
+    let source = comes_once_ipv6 (source_of (header.Ipv6 view)) (slice_index view.slice.now 6) extensions c a others comes in
+    let destination = goes_once_ipv6 (destination_of (header.Ipv6 view)) (slice_index view.slice.now 6) extensions d b other goes in
+    between_wrong a b number payload v w (subst (λ x. IsVerdictBetween x b number payload v) source (subst (λ y. IsVerdictBetween c y number payload v) destination h))
 
 slice_wrong : (ip : IpSlice) (fragment : Option Fragment) (v : Verdict) → MatchOption fragment (IsVerdictOver ip.header ip.extensions.now ip.upper ip.payload.now Wrong) (λ f. Wrong ≡ Absent absence.Fragment) → MatchOption fragment (IsVerdictOver ip.header ip.extensions.now ip.upper ip.payload.now v) (λ f. v ≡ Absent absence.Fragment) → v ≡ Wrong
 slice_wrong ip None v w h = over_wrong ip.header ip.extensions.now ip.upper ip.payload.now v w h

@@ -1,48 +1,22 @@
--- Where an IPv6 packet goes in the end is one place.
-use Rattle.std.proofs.Common.{ℕ, Bool, true, false, take, slice_range, if◌then◌else◌, ◌≡◌, ◌≤◌, ◌-◌, ◌+◌, List, None, Ok, Option, Result, Some, ap, arith, drop, length, length-append, length-drop, length-take, refl, slice_index, subst, sym}
+-- A packet has one final destination.
+use Rattle.std.proofs.Common.{ℕ, Bool, true, false, take, slice_range, if◌then◌else◌, ◌≡◌, ◌≤◌, ◌-◌, ◌+◌, List, None, Option, Result, Some, ap, arith, drop, length, length-append, length-drop, length-take, refl, sym}
 use Rattle.std.proofs.lemmas.Grind.{common_steps}
-use Rattle.std.proofs.lemmas.Result.{IfOk-at_ok}
-use Rattle.etherparse.specs.ExtensionHeaderChain.{required_len_of}
 use Rattle.std.proofs.Common.{[], ◌∷◌, ◌++◌, ◌∙◌, cond, option_map}
 use Rattle.std.specs.Option.{option_or}
 use Rattle.std.specs.Prelude.{find}
 use Rattle.etherparse_net.specs.Ipv4Options.{BeginsWithIpv4Options, IsOnlyIpv4Listing}
 use Rattle.etherparse_net.specs.declared.err.ipv4_option_error.Ipv4OptionError.{Ipv4OptionError}
 use Rattle.etherparse_net.proofs.IpOptions.{ipv4_options_listed}
-use Rattle.packet_parts.specs.FinalDestination.{GoesToIpv4, GoesToIpv6, HasFirstRoute, hides_addresses, is_source_route, has_addresses_left, after_route, after_header, arrives, cmpr_e, first_in_list, is_incomplete, last_address, last_compressed, last_in_list, loses_track, only_address, others_len, passes, segments_left}
+use Rattle.packet_parts.proofs.CoveredAddresses.{LeavesOne, followed_len, followed_once}
+use Rattle.packet_parts.specs.CoveredAddresses.{hides_addresses}
+use Rattle.packet_parts.specs.FinalDestination.{GoesToIpv4, GoesToIpv6, HasFirstRoute, LeavesDestination, is_source_route, has_addresses_left, after_route, after_header, cmpr_e, first_in_list, last_address, last_compressed, last_in_list, only_address, others_len, segments_left}
+
+-- a header leaves one destination
+left_once : LeavesOne LeavesDestination
+left_once d n h a b x y = x ∙ sym y
 
 pub goes_once_ipv6 : (d : List ℕ) (n : ℕ) (s : List ℕ) (a b : Option (List ℕ)) → GoesToIpv6 d n s a → GoesToIpv6 d n s b → a ≡ b
-goes_once_ipv6 d n s a b (arrives _) (arrives _) = refl
-goes_once_ipv6 d n s a b (loses_track _ _ _) (loses_track _ _ _) = refl
-goes_once_ipv6 d n s a b (is_incomplete _ _) (is_incomplete _ _) = refl
-goes_once_ipv6 d n s a b (loses_track _ _ _) (is_incomplete _ _) = refl
-goes_once_ipv6 d n s a b (is_incomplete _ _) (loses_track _ _ _) = refl
-goes_once_ipv6 d n s a b (arrives other) (passes skippable _ _ _) = absurd (other skippable)
-goes_once_ipv6 d n s a b (arrives other) (loses_track skippable _ _) = absurd (other skippable)
-goes_once_ipv6 d n s a b (arrives other) (is_incomplete skippable _) = absurd (other skippable)
-goes_once_ipv6 d n s a b (passes skippable _ _ _) (arrives other) = absurd (other skippable)
-goes_once_ipv6 d n s a b (loses_track skippable _ _) (arrives other) = absurd (other skippable)
-goes_once_ipv6 d n s a b (is_incomplete skippable _) (arrives other) = absurd (other skippable)
-goes_once_ipv6 d n s a b (passes {next = x} _ _ e g) (passes {next = y} _ _ f h) =
-    let k = required_len_of n s in
-    let same : x ≡ y = cc in
-    goes_once_ipv6 y (slice_index s 0) (drop k s) a b (subst (λ z. GoesToIpv6 z (slice_index s 0) (drop k s) a) same g) h
-goes_once_ipv6 d n s a b (passes _ _ e g) (loses_track _ _ f) = cc
-goes_once_ipv6 d n s a b (loses_track _ _ e) (passes _ _ f h) = cc
-goes_once_ipv6 d n s a b (passes _ enough _ _) (is_incomplete _ short) = absurd (omega (arith, enough, short))
-goes_once_ipv6 d n s a b (is_incomplete _ short) (passes _ enough _ _) = absurd (omega (arith, enough, short))
-
--- a header has at least 8 bytes
-pub at_least_8 : (n : ℕ) (s : List ℕ) → required_len_of n s ≤ length s → 8 ≤ required_len_of n s
-at_least_8 n s enough = grind (arith, common_steps)
-
--- what a skip passes is the header
-pub as_passed : {E : Type 0} (n next : ℕ) (s after : List ℕ) → required_len_of n s ≤ length s
-    → ◌≡◌ {A = Result (ℕ × List ℕ) E} (Ok (next, after)) (Ok (slice_index s 0, drop (required_len_of n s) s))
-    → (next ≡ slice_index s 0) × (after ≡ drop (required_len_of n s) s) × (length s - length after ≡ required_len_of n s)
-as_passed n next s after enough skipped =
-    let same = IfOk-at_ok (λ x. (x.0 ≡ slice_index s 0) × (x.1 ≡ drop (required_len_of n s) s)) (sym skipped) (refl, refl) in
-    (same.0, same.1, omega (arith, ap length same.1, length-drop (required_len_of n s) s, enough))
+goes_once_ipv6 = followed_once LeavesDestination left_once
 
 -- it is an address of 16 bytes, as the destination is
 abbrev Is16 : Option (List ℕ) → Type 0
@@ -79,9 +53,7 @@ after_is_16 d n header len = either_is_16 _ (last_address d header) _ (λ on. la
     (either_is_16 (hides_addresses n header) None (Some d) (λ _. none_is_16) (λ next is. grind (arith, common_steps, is, len)))
 
 pub goes_len_ipv6 : (d : List ℕ) (n : ℕ) (s f : List ℕ) → length d ≡ 16 → GoesToIpv6 d n s (Some f) → length f ≡ 16
-goes_len_ipv6 d n s f len (arrives _) = len
-goes_len_ipv6 d n s f len (passes {next = x} _ _ e g) =
-    let k = required_len_of n s in goes_len_ipv6 x (slice_index s 0) (drop k s) f (after_is_16 d n (take k s) len x e) g
+goes_len_ipv6 = followed_len LeavesDestination (λ d n h x len is. after_is_16 d n h len x (sym is))
 
 -- ---- IPv4
 

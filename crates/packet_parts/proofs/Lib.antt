@@ -1,3 +1,4 @@
+pub mod CoveredAddresses
 pub mod Equality
 pub mod ExtensionEnds
 pub mod FinalDestinations
@@ -5,4 +6,5 @@ mod FragmentHeaders
 pub mod IpPackets
 pub mod IpParts
 pub mod IpRefusals
+pub mod OriginalSources
 mod PseudoHeader

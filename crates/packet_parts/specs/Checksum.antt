@@ -1,11 +1,12 @@
 -- What a receiver finds of the checksum of UDP, TCP, ICMP or ICMPv6.
 use Rattle.std.specs.Prelude.{ℕ, ◌≡◌, ◌≢◌, ◌==◌, ◌<◌, ◌≤◌, ◌^◌, ◌⊎◌, List, [], ◌∷◌, ◌++◌}
-use Rattle.std.specs.Prelude.{MatchOption, Option, Some, None, codes, drop, if◌then◌else◌, length}
+use Rattle.std.specs.Prelude.{MatchOption, Option, Some, codes, drop, if◌then◌else◌, length}
 use Rattle.std.specs.Prelude.{slice_index, slice_range, take}
 use Rattle.std.specs.Int.{from_be_bytes, to_be_bytes, w16, w32}
 use Rattle.etherparse.specs.WordSums.{ones_complement_sum}
 use Rattle.packet_parts.specs.FinalDestination.{GoesToIpv4, GoesToIpv6}
 use Rattle.packet_parts.specs.IpSlice.{destination_of, source_of}
+use Rattle.packet_parts.specs.OriginalSource.{ComesFromIpv6}
 use Rattle.packet_parts.specs.declared.checksum.Absence.{Absence}
 use Rattle.packet_parts.specs.declared.checksum.Absence.TheVariants as absence
 use Rattle.packet_parts.specs.declared.checksum.Verdict.{Verdict}
@@ -107,25 +108,34 @@ IsVerdictIpv6 source destination number payload Wrong = (covered : List ℕ)
     × Covers 58 number payload covered × ¬ IsRightIpv6 source destination number covered
 IsVerdictIpv6 source destination number payload (Absent reason) = IsAbsent 58 number payload reason
 
--- the same, for a final destination that can be unknown: then no checksum is right or wrong
-abbrev pub IsVerdictTo : List ℕ → Option (List ℕ) → ℕ → List ℕ → Verdict → Type 0
-IsVerdictTo source (Some destination) number payload verdict =
-    IsVerdictIpv6 source destination number payload verdict
-IsVerdictTo source None number payload (Absent absence.UnknownDestination) =
+-- The same where an address that the checksum covers is unknown: then no checksum is right or
+-- wrong. The source is unknown only if the destination is too, hence the reason.
+abbrev pub IsVerdictOnUnknown : ℕ → List ℕ → Verdict → Type 0
+IsVerdictOnUnknown number payload (Absent absence.UnknownDestination) =
     (covered : List ℕ) × Covers 58 number payload covered
-IsVerdictTo source None number payload (Absent reason) = IsAbsent 58 number payload reason
-IsVerdictTo source None number payload Right = ⊥
-IsVerdictTo source None number payload Wrong = ⊥
+IsVerdictOnUnknown number payload (Absent reason) = IsAbsent 58 number payload reason
+IsVerdictOnUnknown number payload Right = ⊥
+IsVerdictOnUnknown number payload Wrong = ⊥
+
+-- the same between an original source and a final destination, each of which can be unknown
+abbrev pub IsVerdictBetween : Option (List ℕ) → Option (List ℕ) → ℕ → List ℕ → Verdict → Type 0
+IsVerdictBetween (Some source) (Some destination) number payload verdict =
+    IsVerdictIpv6 source destination number payload verdict
+IsVerdictBetween source destination number payload verdict =
+    IsVerdictOnUnknown number payload verdict
 
 -- The verdict on the payload of a packet that is no fragment and has this header and these
--- extension headers: between the source of the header and the final destination of the packet.
+-- extension headers: between the original source and the final destination of the packet. Over IPv4
+-- the source of the header is the original one.
 abbrev pub IsVerdictOver : IpHeaderSlice → List ℕ → ℕ → List ℕ → Verdict → Type 0
 IsVerdictOver (header.Ipv4 view) extensions = λ protocol payload verdict. (final : List ℕ)
     × GoesToIpv4 (destination_of (header.Ipv4 view)) (drop 20 view.slice.now) final
     × IsVerdictIpv4 (source_of (header.Ipv4 view)) final protocol payload verdict
-IsVerdictOver (header.Ipv6 view) extensions = λ number payload verdict. (final : Option (List ℕ))
+IsVerdictOver (header.Ipv6 view) extensions = λ number payload verdict.
+    (original final : Option (List ℕ))
+    × ComesFromIpv6 (source_of (header.Ipv6 view)) (slice_index view.slice.now 6) extensions original
     × GoesToIpv6 (destination_of (header.Ipv6 view)) (slice_index view.slice.now 6) extensions final
-    × IsVerdictTo (source_of (header.Ipv6 view)) final number payload verdict
+    × IsVerdictBetween original final number payload verdict
 
 -- the verdict on the payload of a packet in these parts, which may be a fragment
 abbrev pub IsVerdict : IpSlice → Verdict → Type 0

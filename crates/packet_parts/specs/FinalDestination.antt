@@ -1,13 +1,12 @@
 -- The final destination of a packet, which its checksums cover. A source route of IPv4 and a
 -- routing header of IPv6 send a packet over several stops. On the way, the destination of the
--- header is the next stop. Shim6 hides the addresses that are covered.
-use Rattle.std.specs.Prelude.{ℕ, ◌≡◌, ◌+◌, ◌-◌, ◌*◌, ◌/◌, ◌%◌, ◌<◌, ◌≤◌, ◌==◌, ◌&&◌, ◌||◌, not}
+-- header is the next stop. Shim6 hides the addresses that checksums cover.
+use Rattle.std.specs.Prelude.{ℕ, ◌≡◌, ◌+◌, ◌-◌, ◌*◌, ◌/◌, ◌%◌, ◌==◌, ◌&&◌, ◌||◌, not}
 use Rattle.std.specs.Prelude.{Bool, List, ◌++◌, drop, find, length, slice_index, slice_range, take}
 use Rattle.std.specs.Prelude.{Option, Result, Some, None, if◌then◌else◌, nat_le}
-use Rattle.etherparse.specs.ExtensionHeaderChain.{required_len_of}
-use Rattle.etherparse.specs.ExtensionHeaders.{IsSkippable}
 use Rattle.etherparse_net.specs.Ipv4Options.{IsOnlyIpv4Listing}
 use Rattle.etherparse_net.specs.declared.err.ipv4_option_error.Ipv4OptionError.{Ipv4OptionError}
+use Rattle.packet_parts.specs.CoveredAddresses.{FollowsIpv6, hides_addresses}
 
 -- ---- IPv4
 
@@ -106,11 +105,6 @@ last_address destination header =
     else (if slice_index header 2 == 3 then last_compressed destination header
     else (if slice_index header 2 == 4 then first_in_list header else None)))
 
--- a payload header of Shim6 (140): bit 7 of byte 2 is set. Its receiver puts addresses that only
--- the two hosts know into the IPv6 header (RFC 5533 section 5.2)
-abbrev pub hides_addresses : ℕ → List ℕ → Bool
-hides_addresses number header = (number == 140) && nat_le 128 (slice_index header 2)
-
 -- The destination after an extension header of a number. A routing header (43) with segments left
 -- makes it its last address, and a payload header of Shim6 an unknown one; any other header leaves
 -- it as it is.
@@ -119,22 +113,14 @@ after_header destination number header =
     if number == 43 && not (segments_left header == 0) then last_address destination header
     else if hides_addresses number header then None else Some destination
 
+-- what an extension header of a number leaves as the destination
+abbrev pub LeavesDestination : List ℕ → ℕ → List ℕ → Option (List ℕ) → Type 0
+LeavesDestination destination number header next = next ≡ after_header destination number header
+
 -- The final destination of a packet of IPv6 (RFC 8200 section 8.1), from the destination of its
 -- header, the number of its first extension header and the bytes of all of them. It is unknown if a
 -- routing header with segments left has no last address, Shim6 hides it, or a header is incomplete.
 -- The compressed segments of RFC 9800 are not looked into.
-pub data GoesToIpv6 : List ℕ → ℕ → List ℕ → Option (List ℕ) → Type 0 where
-  arrives : {destination s : List ℕ} {number : ℕ}
-      → ¬ IsSkippable number → GoesToIpv6 destination number s (Some destination)
-  passes : {destination s next : List ℕ} {number : ℕ} {final : Option (List ℕ)}
-      → IsSkippable number → required_len_of number s ≤ length s
-      → after_header destination number (take (required_len_of number s) s) ≡ Some next
-      → GoesToIpv6 next (slice_index s 0) (drop (required_len_of number s) s) final
-      → GoesToIpv6 destination number s final
-  loses_track : {destination s : List ℕ} {number : ℕ}
-      → IsSkippable number → required_len_of number s ≤ length s
-      → after_header destination number (take (required_len_of number s) s) ≡ None
-      → GoesToIpv6 destination number s None
-  is_incomplete : {destination s : List ℕ} {number : ℕ}
-      → IsSkippable number → length s < required_len_of number s
-      → GoesToIpv6 destination number s None
+abbrev pub GoesToIpv6 : List ℕ → ℕ → List ℕ → Option (List ℕ) → Type 0
+GoesToIpv6 destination first extensions final =
+    FollowsIpv6 LeavesDestination destination first extensions final

@@ -224,13 +224,12 @@ ip_slice_error_text (error.Ipv6Header e) = ipv6_header_slice_error_text e
 ip_slice_error_text (error.Packet e) = len_error_text e
 ip_slice_error_text (error.Extensions e) = len_error_text e
 
--- who sent the packet: bytes 12 to 15 of the header (RFC 791 section 3.1), or 8 to 23 (RFC 8200
--- section 3)
+-- the source of the header: bytes 12 to 15 (RFC 791 section 3.1), or 8 to 23 (RFC 8200 section 3)
 abbrev pub source_of : IpHeaderSlice → List ℕ
 source_of (header.Ipv4 view) = slice_range view.slice.now 12 16
 source_of (header.Ipv6 view) = slice_range view.slice.now 8 24
 
--- who receives it: bytes 16 to 19, or 24 to 39
+-- the destination of the header: bytes 16 to 19, or 24 to 39
 abbrev pub destination_of : IpHeaderSlice → List ℕ
 destination_of (header.Ipv4 view) = slice_range view.slice.now 16 20
 destination_of (header.Ipv6 view) = slice_range view.slice.now 24 40

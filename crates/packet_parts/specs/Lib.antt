@@ -1,6 +1,9 @@
 pub mod Address
 pub mod Checksum
+pub mod CoveredAddresses
 pub mod Extensions
 pub mod FinalDestination
 pub mod FragmentKey
 pub mod IpSlice
+pub mod OriginalSource
+pub mod Sides

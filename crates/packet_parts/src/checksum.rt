@@ -5,7 +5,8 @@ ghost use Rattle.std.specs.Prelude.{ℕ, ◌≡◌, ◌≢◌, ◌↔◌, ◌<�
 ghost use Rattle.std.specs.Prelude.{Some, length};
 ghost use Rattle.etherparse.specs.WordSums.{StandsForWords};
 ghost use Rattle.packet_parts.specs.Checksum.{Covers, IsAbsent, IsRightIpv4, IsRightIpv6};
-ghost use Rattle.packet_parts.specs.Checksum.{IsVerdictIpv4, IsVerdictIpv6, IsVerdictTo};
+ghost use Rattle.packet_parts.specs.Checksum.{IsVerdictIpv4, IsVerdictIpv6};
+ghost use Rattle.packet_parts.specs.Checksum.{IsVerdictBetween, IsVerdictOnUnknown};
 ghost use Rattle.packet_parts.specs.Checksum.{IsWithoutChecksum};
 ghost use Rattle.packet_parts.specs.Checksum.{ipv4_pseudo_header, ipv6_pseudo_header};
 ghost use Rattle.packet_parts.specs.Checksum.{udp_length, verdict_text};
@@ -165,8 +166,9 @@ pub fn ipv4_verdict(
 }
 
 /// The verdict on the checksum of an IPv6 packet's payload that is no fragment, from both addresses
-/// and the number of the payload, which has to end where the payload length says. The destination
-/// is the final one (RFC 8200 section 8.1), as [`final_destination_ipv6`] gives it.
+/// and the number of the payload, which has to end where the payload length says. The source is the
+/// original one (RFC 6275 section 11.3.1), as [`original_source_ipv6`] gives it, and the destination
+/// the final one (RFC 8200 section 8.1), as [`final_destination_ipv6`] gives it.
 ///
 /// # Example
 ///
@@ -183,6 +185,7 @@ pub fn ipv4_verdict(
 /// assert!(rt; verdict == Verdict::Wrong);
 /// ```
 ///
+/// [`original_source_ipv6`]: crate::original_source::original_source_ipv6
 /// [`final_destination_ipv6`]: crate::final_destination::final_destination_ipv6
 pub fn ipv6_verdict(
     source: [u8; 16],
@@ -204,9 +207,24 @@ pub fn ipv6_verdict(
     }
 }
 
-// The same if the final destination is not known.
-pub(crate) fn verdict_to_unknown(number: IpNumber, payload: &[u8]) -> Verdict
-    ensures judges { (source : List ℕ) → IsVerdictTo source None number payload.now result }
+// The same between an original source and a final destination, each of which can be unknown.
+pub(crate) fn verdict_between(
+    source: Option<[u8; 16]>,
+    destination: Option<[u8; 16]>,
+    number: IpNumber,
+    payload: &[u8],
+) -> Verdict
+    ensures judges { IsVerdictBetween source destination number payload.now result }
+{
+    match (source, destination) {
+        (Some(source), Some(destination)) => ipv6_verdict(source, destination, number, payload),
+        _ => verdict_on_unknown(number, payload),
+    }
+}
+
+// The same where an address that the checksum covers is unknown.
+fn verdict_on_unknown(number: IpNumber, payload: &[u8]) -> Verdict
+    ensures judges { IsVerdictOnUnknown number payload.now result }
 {
     match covered(IpNumber::IPV6_ICMP, number, payload) {
         Ok(_) => Verdict::Absent(Absence::UnknownDestination),

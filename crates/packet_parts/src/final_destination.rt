@@ -8,7 +8,8 @@ ghost use Rattle.packet_parts.specs.FinalDestination.{is_source_route};
 ghost use Rattle.packet_parts.specs.FinalDestination.{last_address, last_compressed, last_in_list};
 ghost use Rattle.packet_parts.specs.FinalDestination.{only_address, segments_left};
 
-use etherparse::{IpNumber, Ipv6Header};
+use crate::follow::{Side, follow, hides_addresses};
+use etherparse::IpNumber;
 use etherparse_net::Ipv4OptionsIterator;
 
 /// The final destination of an IPv4 packet, which its checksums cover, from the destination of its
@@ -102,7 +103,7 @@ fn after_route(destination: [u8; 4], route: &[u8]) -> [u8; 4]
 /// an extension header is incomplete. The compressed segments of RFC 9800 are not looked into.
 ///
 /// What follows the fragment header of a later fragment is no header: leave it out, as
-/// [`IpSlice::extensions`] does.
+/// [`IpSlice::extensions`] does. The answer is `None` if a header should follow by its number.
 ///
 /// # Example
 ///
@@ -128,34 +129,21 @@ pub fn final_destination_ipv6(
     ensures only { (other : Option (List ℕ)) → GoesToIpv6 destination first extensions.now other →
         other ≡ result }
 {
-    let mut last = destination;
-    let mut number = first;
-    let mut rest = extensions;
-    'headers: loop {
-        if !Ipv6Header::is_skippable_header_extension(number) {
-            return Some(last);
-        }
-        let (next, after) = match Ipv6Header::skip_header_extension_in_slice(rest, number) {
-            Ok(skipped) => skipped,
-            Err(_) => return None,
-        };
-        match after_header(last, number, &rest[..rest.len() - after.len()]) {
-            Some(next) => last = next,
-            None => return None,
-        }
-        number = next;
-        rest = after;
-    }
+    follow(Side::Destination, destination, first, extensions)
 }
 
 // The destination after an extension header of a number.
-fn after_header(destination: [u8; 16], number: IpNumber, header: &[u8]) -> Option<[u8; 16]>
+pub(crate) fn after_header(
+    destination: [u8; 16],
+    number: IpNumber,
+    header: &[u8],
+) -> Option<[u8; 16]>
     requires enough { 8 ≤ length header.now }
     ensures value { result ≡ after_header destination number header.now }
 {
     if number == IpNumber::IPV6_ROUTE_HEADER && header[3] != 0 {
         last_address(destination, header)
-    } else if number == IpNumber::SHIM6 && header[2] >= 128 {
+    } else if hides_addresses(number, header) {
         None
     } else {
         Some(destination)

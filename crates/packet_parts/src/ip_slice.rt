@@ -15,10 +15,11 @@ ghost use Rattle.packet_parts.specs.IpSlice.{ipv6_bytes, placed};
 ghost use Rattle.packet_parts.specs.declared.ip_slice.IpHeaderSlice.TheVariants as Header;
 ghost use Rattle.packet_parts.specs.declared.ip_slice.IpSliceError.TheVariants as Stop;
 
-use crate::checksum::{Absence, Verdict, ipv4_verdict, ipv6_verdict, verdict_to_unknown};
+use crate::checksum::{Absence, Verdict, ipv4_verdict, verdict_between};
 use crate::extensions::after_extensions;
 use crate::final_destination::{final_destination_ipv4, final_destination_ipv6};
 use crate::fragment::Fragment;
+use crate::original_source::original_source_ipv6;
 use etherparse::err::{Layer, LenError, ipv4, ipv6};
 use etherparse::{IpNumber, Ipv4HeaderSlice, Ipv6Header, Ipv6HeaderSlice, LenSource};
 use etherparse_net::Ipv6FragmentHeader;
@@ -203,7 +204,8 @@ impl<'a> IpSlice<'a> {
         self.header.slice().len() + self.extensions.len()
     }
 
-    /// The address of the sender.
+    /// The source of the header. The original source of an IPv6 packet can be another one:
+    /// [`original_source_ipv6`].
     pub fn source(&self) -> IpAddr
         ensures value { IsAddressIn self.now.header result (source_of self.now.header) }
     {
@@ -225,13 +227,10 @@ impl<'a> IpSlice<'a> {
         }
     }
 
-    /// The verdict on the checksum of the payload: `Absent(Fragment)`, or that of [`ipv4_verdict`] or
-    /// [`ipv6_verdict`] between the header's source and the final destination, as
-    /// [`final_destination_ipv4`] and [`final_destination_ipv6`] give it; if that is unknown,
-    /// `UnknownDestination` instead of right or wrong.
-    ///
-    /// The checksum of a packet with a home address option covers that address (RFC 6275 section
-    /// 11.3.1), not the source, and is found `Wrong`.
+    /// The verdict on the checksum of the payload: `Absent(Fragment)`, or that of [`ipv4_verdict`]
+    /// or [`ipv6_verdict`] between the original source (over IPv6 by [`original_source_ipv6`]) and
+    /// the final destination (by [`final_destination_ipv4`] or [`final_destination_ipv6`]). If one
+    /// of these is unknown, it is `UnknownDestination` instead of right or wrong.
     ///
     /// The payload is taken for whole: for [`LaxIpSlice::slice`] there is [`LaxIpSlice::verdict`].
     pub fn verdict(&self) -> Verdict
@@ -244,14 +243,10 @@ impl<'a> IpSlice<'a> {
                 ipv4_verdict(view.source(), last, self.upper, self.payload)
             }
             (None, IpHeaderSlice::Ipv6(view)) => {
-                match final_destination_ipv6(
-                    view.destination(),
-                    view.next_header(),
-                    self.extensions,
-                ) {
-                    Some(last) => ipv6_verdict(view.source(), last, self.upper, self.payload),
-                    None => verdict_to_unknown(self.upper, self.payload),
-                }
+                let (first, extensions) = (view.next_header(), self.extensions);
+                let original = original_source_ipv6(view.source(), first, extensions);
+                let last = final_destination_ipv6(view.destination(), first, extensions);
+                verdict_between(original, last, self.upper, self.payload)
             }
         }
     }

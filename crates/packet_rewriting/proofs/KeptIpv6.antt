@@ -8,11 +8,14 @@ use Rattle.etherparse.specs.Ipv6Header.{IsIpv6Layout}
 use Rattle.etherparse.specs.Reading.{BeginsWith}
 use Rattle.etherparse.specs.WordSums.{network_order_word_sum, ones_complement_sum}
 use Rattle.etherparse.specs.declared.net.ipv6_header.Ipv6Header.{Ipv6Header}
-use Rattle.etherparse.specs.ExtensionHeaderChain.{required_len_of}
+use Rattle.packet_parts.proofs.CoveredAddresses.{followed_known}
 use Rattle.packet_parts.proofs.FinalDestinations.{goes_len_ipv6, goes_once_ipv6}
-use Rattle.packet_parts.specs.Checksum.{Covers, IsVerdictIpv6, IsVerdictTo, ipv6_pseudo_header}
-use Rattle.packet_parts.specs.FinalDestination.{hides_addresses, GoesToIpv6, after_header, arrives, first_in_list, is_incomplete, last_address, last_compressed, last_in_list, loses_track, only_address, passes}
+use Rattle.packet_parts.proofs.OriginalSources.{comes_known_ipv6, comes_len_ipv6, comes_once_ipv6}
+use Rattle.packet_parts.specs.Checksum.{Covers, IsVerdictBetween, IsVerdictIpv6, ipv6_pseudo_header}
+use Rattle.packet_parts.specs.CoveredAddresses.{hides_addresses}
+use Rattle.packet_parts.specs.FinalDestination.{GoesToIpv6, LeavesDestination, after_header, first_in_list, last_address, last_compressed, last_in_list, only_address}
 use Rattle.packet_parts.specs.IpSlice.{header_bytes}
+use Rattle.packet_parts.specs.OriginalSource.{ComesFromIpv6}
 use Rattle.packet_parts.specs.declared.checksum.Verdict.TheVariants.{Right}
 use Rattle.packet_parts.specs.declared.ip_slice.IpHeaderSlice.{IpHeaderSlice}
 use Rattle.packet_parts.specs.declared.ip_slice.IpHeaderSlice.TheVariants as header_slice
@@ -21,7 +24,7 @@ use Rattle.packet_rewriting.proofs.ChecksumWords.{even_header, in_pieces}
 use Rattle.packet_rewriting.proofs.KeptRight.{field_there, kept_in, of_pieces, same_field, updated_fits, updated_there}
 use Rattle.packet_rewriting.proofs.Readdressed.{least_enough}
 use Rattle.packet_rewriting.proofs.RightChecksums.{covers_enough, covers_written, has_checksum, same_length}
-use Rattle.packet_rewriting.specs.Fields.{CutsIpv6, KeepsRightIpv6, ReaddressesIpv6, Reaches, UpdatesForDestinationIpv6, UpdatesForFinal, UpdatesForSourceIpv6, UpdatesPayload, UpdatesUpper, covers_addresses, updated_upper, version_in, with_updated}
+use Rattle.packet_rewriting.specs.Fields.{CutsIpv6, KeepsRightIpv6, ReaddressesIpv6, Reaches, UpdatesForDestinationIpv6, UpdatesForIpv6, UpdatesForSourceIpv6, UpdatesIfKnown, UpdatesPayload, UpdatesUpper, covers_addresses, updated_upper, version_in, with_updated}
 use Rattle.packet_rewriting.specs.UpperChecksum.{checksum_field, checksum_place, with_checksum}
 use Rattle.packet_rewriting.specs.declared.fields.Cut.{Cut}
 use Rattle.packet_rewriting.specs.declared.fields.Reach.{Reach}
@@ -163,12 +166,7 @@ after_known d e n h = either_known _ (last_address d h) _ (last_address e h) _
     (either_known (hides_addresses n h) None (Some d) None (Some e) (itself_known None) (some_known d e))
 
 goes_known : (d e : List ℕ) (n : ℕ) (s a : List ℕ) → GoesToIpv6 d n s (Some a) → GoesToIpv6 e n s None → ⊥
-goes_known d e n s a (arrives other) (passes skippable _ _ _) = other skippable
-goes_known d e n s a (arrives other) (loses_track skippable _ _) = other skippable
-goes_known d e n s a (arrives other) (is_incomplete skippable _) = other skippable
-goes_known d e n s a (passes {next = x} _ _ p g) (passes {next = y} _ _ q h) = goes_known x y (slice_index s 0) (drop (required_len_of n s) s) a g h
-goes_known d e n s a (passes {next = x} _ _ p g) (loses_track _ _ q) = after_known d e n (take (required_len_of n s) s) x p q
-goes_known d e n s a (passes _ enough _ _) (is_incomplete _ short) = omega (arith, enough, short)
+goes_known = followed_known LeavesDestination (λ d e n h x p q. after_known d e n h x (sym p) (sym q))
 
 -- the addresses of a header have 16 bytes each
 sixteen : {header : Ipv6Header} {bytes : List ℕ} → IsIpv6Layout header bytes → (length header.source ≡ 16) × (length header.destination ≡ 16)
@@ -190,39 +188,69 @@ final_kept_to : (reach : Reach) (slice : IpSlice) (source old new payload : List
 final_kept_to reach slice source old new payload six reaches now a b c updates right =
     reach_kept_ipv6 reach slice source old source new old new payload (network_order_word_sum source) six reaches now a b a c (omega arith) (omega arith) updates right
 
+abbrev Is16 : Option (List ℕ) → Type 0
+Is16 a = (x : List ℕ) → a ≡ Some x → length x ≡ 16
+
+-- the same if the addresses can be unknown
+source_kept_between : (reach : Reach) (slice : IpSlice) (payload : List ℕ) (old new final : Option (List ℕ)) → version_in slice.header ≡ 6 → Reaches slice reach
+    → slice.is_later_fragment ≡ false → Is16 old → Is16 new → Is16 final → SameKnown old new → UpdatesIfKnown reach slice.upper old new slice.payload.now payload
+    → IsVerdictBetween old final slice.upper slice.payload.now Right → IsVerdictBetween new final slice.upper payload Right
+source_kept_between reach slice payload None new final six reaches now a b c known updates right = absurd right
+source_kept_between reach slice payload (Some old) new None six reaches now a b c known updates right = absurd right
+source_kept_between reach slice payload (Some old) None (Some final) six reaches now a b c known updates right = absurd (known old refl refl)
+source_kept_between reach slice payload (Some old) (Some new) (Some final) six reaches now a b c known (inl (same, stays)) right = rw (sym same, stays) right
+source_kept_between reach slice payload (Some old) (Some new) (Some final) six reaches now a b c known (inr (other, updates)) right =
+    source_kept_to reach slice old new final payload six reaches now (a old refl) (b new refl) (c final refl) updates right
+
+final_kept_between : (reach : Reach) (slice : IpSlice) (payload : List ℕ) (source old new : Option (List ℕ)) → version_in slice.header ≡ 6 → Reaches slice reach
+    → slice.is_later_fragment ≡ false → Is16 source → Is16 old → Is16 new → SameKnown old new → UpdatesIfKnown reach slice.upper old new slice.payload.now payload
+    → IsVerdictBetween source old slice.upper slice.payload.now Right → IsVerdictBetween source new slice.upper payload Right
+final_kept_between reach slice payload None old new six reaches now a b c known updates right = absurd right
+final_kept_between reach slice payload (Some source) None new six reaches now a b c known updates right = absurd right
+final_kept_between reach slice payload (Some source) (Some old) None six reaches now a b c known updates right = absurd (known old refl refl)
+final_kept_between reach slice payload (Some source) (Some old) (Some new) six reaches now a b c known (inl (same, stays)) right = rw (sym same, stays) right
+final_kept_between reach slice payload (Some source) (Some old) (Some new) six reaches now a b c known (inr (other, updates)) right =
+    final_kept_to reach slice source old new payload six reaches now (a source refl) (b old refl) (c new refl) updates right
+
+-- what is covered has 16 bytes
+comes_16 : (d : List ℕ) (n : ℕ) (s : List ℕ) (a : Option (List ℕ)) → length d ≡ 16 → ComesFromIpv6 d n s a → Is16 a
+comes_16 d n s a len comes x is = comes_len_ipv6 d n s x len (subst (ComesFromIpv6 d n s) is comes)
+
+goes_16 : (d : List ℕ) (n : ℕ) (s : List ℕ) (a : Option (List ℕ)) → length d ≡ 16 → GoesToIpv6 d n s a → Is16 a
+goes_16 d n s a len goes x is = goes_len_ipv6 d n s x len (subst (GoesToIpv6 d n s) is goes)
+
 pub source_kept : {before : List ℕ} {header : Ipv6Header} {cut : Cut} (cuts : CutsIpv6 before header cut) (source payload : List ℕ) → length source ≡ 16
     → UpdatesForSourceIpv6 source cuts.slice header cut.reach payload → cuts.slice.is_later_fragment ≡ false → KeepsRightIpv6 cuts.slice header (record header { source = source }) payload
-source_kept {header = header} {cut = cut} cuts source payload len updates now None new goes_old goes_new right = absurd right
-source_kept {header = header} {cut = cut} cuts source payload len updates now (Some old) new goes_old goes_new right =
-    let same = goes_once_ipv6 header.destination header.next_header cuts.slice.extensions.now (Some old) new goes_old goes_new in
+source_kept {header = header} {cut = cut} cuts source payload len updates now original final new_original new_final comes goes comes_new goes_new right =
+    let n = header.next_header in
+    let s = cuts.slice.extensions.now in
     let lens = sixteen cuts.layout in
-    subst (λ final. IsVerdictTo source final cuts.slice.upper payload Right) same (source_kept_to cut.reach cuts.slice header.source source old payload cuts.version cuts.reaches now lens.0 len
-    (goes_len_ipv6 header.destination header.next_header cuts.slice.extensions.now old lens.1 goes_old) updates right)
-
-destination_kept_to : {before : List ℕ} {header : Ipv6Header} {cut : Cut} (cuts : CutsIpv6 before header cut) (destination payload : List ℕ) → length destination ≡ 16
-    → (old new : Option (List ℕ)) → GoesToIpv6 header.destination header.next_header cuts.slice.extensions.now old → GoesToIpv6 destination header.next_header cuts.slice.extensions.now new
-    → UpdatesForFinal cut.reach cuts.slice.upper old new cuts.slice.payload.now payload → cuts.slice.is_later_fragment ≡ false
-    → IsVerdictTo header.source old cuts.slice.upper cuts.slice.payload.now Right → IsVerdictTo header.source new cuts.slice.upper payload Right
-destination_kept_to cuts destination payload len None new goes_old goes_new updates now right = absurd right
-destination_kept_to {header = header} cuts destination payload len (Some old) None goes_old goes_new updates now right =
-    absurd (goes_known header.destination destination header.next_header cuts.slice.extensions.now old goes_old goes_new)
-destination_kept_to {header = header} cuts destination payload len (Some old) (Some new) goes_old goes_new (inl (same, stays)) now right = rw (sym same, stays) right
-destination_kept_to {header = header} {cut = cut} cuts destination payload len (Some old) (Some new) goes_old goes_new (inr (other, updates)) now right =
-    let lens = sixteen cuts.layout in
-    let extensions = cuts.slice.extensions.now in
-    final_kept_to cut.reach cuts.slice header.source old new payload cuts.version cuts.reaches now lens.0 (goes_len_ipv6 header.destination header.next_header extensions old lens.1 goes_old)
-    (goes_len_ipv6 destination header.next_header extensions new len goes_new) updates right
+    let was = comes_once_ipv6 header.source n s original updates.old comes updates.follows_old in
+    let is = comes_once_ipv6 source n s updates.new new_original updates.follows_new comes_new in
+    let same = goes_once_ipv6 header.destination n s final new_final goes goes_new in
+    let known : SameKnown updates.old updates.new = λ x p q. comes_known_ipv6 header.source source n s x (subst (ComesFromIpv6 header.source n s) p updates.follows_old)
+    (subst (ComesFromIpv6 source n s) q updates.follows_new) in
+    subst (λ a. IsVerdictBetween a new_final cuts.slice.upper payload Right) is (subst (λ d. IsVerdictBetween updates.new d cuts.slice.upper payload Right) same
+    (source_kept_between cut.reach cuts.slice payload updates.old updates.new final cuts.version cuts.reaches now (comes_16 header.source n s updates.old lens.0 updates.follows_old)
+    (comes_16 source n s updates.new len updates.follows_new) (goes_16 header.destination n s final lens.1 goes) known updates.updated
+    (subst (λ a. IsVerdictBetween a final cuts.slice.upper cuts.slice.payload.now Right) was right)))
 
 pub destination_kept : {before : List ℕ} {header : Ipv6Header} {cut : Cut} (cuts : CutsIpv6 before header cut) (destination payload : List ℕ) → length destination ≡ 16
     → UpdatesForDestinationIpv6 destination cuts.slice header cut.reach payload → cuts.slice.is_later_fragment ≡ false
     → KeepsRightIpv6 cuts.slice header (record header { destination = destination }) payload
-destination_kept {header = header} {cut = cut} cuts destination payload len updates now old new goes_old goes_new right =
-    let extensions = cuts.slice.extensions.now in
-    let was = goes_once_ipv6 header.destination header.next_header extensions old updates.old goes_old updates.goes_to_old in
-    let is = goes_once_ipv6 destination header.next_header extensions updates.new new updates.goes_to_new goes_new in
-    subst (λ final. IsVerdictTo header.source final cuts.slice.upper payload Right) is
-    (destination_kept_to cuts destination payload len updates.old updates.new updates.goes_to_old updates.goes_to_new updates.updated now
-    (subst (λ final. IsVerdictTo header.source final cuts.slice.upper cuts.slice.payload.now Right) was right))
+destination_kept {header = header} {cut = cut} cuts destination payload len updates now original final new_original new_final comes goes comes_new goes_new right =
+    let n = header.next_header in
+    let s = cuts.slice.extensions.now in
+    let lens = sixteen cuts.layout in
+    let was = goes_once_ipv6 header.destination n s final updates.old goes updates.follows_old in
+    let is = goes_once_ipv6 destination n s updates.new new_final updates.follows_new goes_new in
+    let same = comes_once_ipv6 header.source n s original new_original comes comes_new in
+    let known : SameKnown updates.old updates.new = λ x p q. goes_known header.destination destination n s x (subst (GoesToIpv6 header.destination n s) p updates.follows_old)
+    (subst (GoesToIpv6 destination n s) q updates.follows_new) in
+    subst (λ d. IsVerdictBetween new_original d cuts.slice.upper payload Right) is (subst (λ a. IsVerdictBetween a updates.new cuts.slice.upper payload Right) same
+    (final_kept_between cut.reach cuts.slice payload original updates.old updates.new cuts.version cuts.reaches now (comes_16 header.source n s original lens.0 comes)
+    (goes_16 header.destination n s updates.old lens.1 updates.follows_old) (goes_16 destination n s updates.new len updates.follows_new) known updates.updated
+    (subst (λ d. IsVerdictBetween original d cuts.slice.upper cuts.slice.payload.now Right) was right)))
 
 -- what stands in a packet after its header of 40 bytes
 pub extensions_are : {before : List ℕ} {header : Ipv6Header} {cut : Cut} (cuts : CutsIpv6 before header cut) (front : List ℕ) → front ≡ take cut.header_len before
@@ -230,21 +258,17 @@ pub extensions_are : {before : List ℕ} {header : Ipv6Header} {cut : Cut} (cuts
 extensions_are cuts front is = ap (drop 40) (headers_are cuts front is) ∙ drop_at (header_bytes cuts.slice.header) cuts.slice.extensions.now 40 cuts.layout.len
 
 -- the payload that is updated is that of the parts
-pub updated_source : {before : List ℕ} {header : Ipv6Header} {cut : Cut} (cuts : CutsIpv6 before header cut) (source rest payload : List ℕ) → rest ≡ drop cut.header_len before
-    → UpdatesPayload cut.reach 8 cut.upper header.source source (take cut.payload_len rest) payload → UpdatesForSourceIpv6 source cuts.slice header cut.reach payload
-updated_source cuts source rest payload rest_is updates = rw (taken cuts rest rest_is, cuts.upper) at updates
-
-pub updated_destination : {before : List ℕ} {header : Ipv6Header} {cut : Cut} (cuts : CutsIpv6 before header cut) (destination front rest payload : List ℕ) (old new : Option (List ℕ))
-    → front ≡ take cut.header_len before → rest ≡ drop cut.header_len before → GoesToIpv6 header.destination header.next_header (drop 40 front) old
-    → GoesToIpv6 destination header.next_header (drop 40 front) new → UpdatesForFinal cut.reach cut.upper old new (take cut.payload_len rest) payload
-    → UpdatesForDestinationIpv6 destination cuts.slice header cut.reach payload
-updated_destination {header = header} {cut = cut} cuts destination front rest payload old new front_is rest_is goes_old goes_new updates = record {
+pub updated_ipv6 : {before : List ℕ} {header : Ipv6Header} {cut : Cut} (cuts : CutsIpv6 before header cut) (Follows : List ℕ → ℕ → List ℕ → Option (List ℕ) → Type 0)
+    (address next front rest payload : List ℕ) (old new : Option (List ℕ)) → front ≡ take cut.header_len before → rest ≡ drop cut.header_len before
+    → Follows address header.next_header (drop 40 front) old → Follows next header.next_header (drop 40 front) new
+    → UpdatesIfKnown cut.reach cut.upper old new (take cut.payload_len rest) payload → UpdatesForIpv6 Follows address next cuts.slice header cut.reach payload
+updated_ipv6 {header = header} {cut = cut} cuts Follows address next front rest payload old new front_is rest_is follows_old follows_new updates = record {
   old = old;
   new = new;
-  goes_to_old = subst (λ e. GoesToIpv6 header.destination header.next_header e old) (extensions_are cuts front front_is) goes_old;
-  goes_to_new = subst (λ e. GoesToIpv6 destination header.next_header e new) (extensions_are cuts front front_is) goes_new;
-  updated = subst (λ p. UpdatesForFinal cut.reach cuts.slice.upper old new p payload) (taken cuts rest rest_is)
-      (subst (λ n. UpdatesForFinal cut.reach n old new (take cut.payload_len rest) payload) cuts.upper updates);
+  follows_old = subst (λ e. Follows address header.next_header e old) (extensions_are cuts front front_is) follows_old;
+  follows_new = subst (λ e. Follows next header.next_header e new) (extensions_are cuts front front_is) follows_new;
+  updated = subst (λ p. UpdatesIfKnown cut.reach cuts.slice.upper old new p payload) (taken cuts rest rest_is)
+      (subst (λ n. UpdatesIfKnown cut.reach n old new (take cut.payload_len rest) payload) cuts.upper updates);
 }
 
 -- the packet with another address, from what was written to its parts

@@ -6,6 +6,7 @@ use Rattle.std.proofs.lemmas.List.{get_or-set_other, get_or-take}
 use Rattle.etherparse.proofs.WordSumLaws.{network_order_word_sum-append}
 use Rattle.etherparse.specs.WordSums.{SumsToAllOnes, folded_sum, network_order_word_sum, ones_complement_sum}
 use Rattle.packet_parts.proofs.FinalDestinations.{goes_len_ipv6, goes_len_ipv4}
+use Rattle.packet_parts.proofs.OriginalSources.{comes_len_ipv6}
 use Rattle.packet_parts.specs.Checksum.{BeginsWithDatagram, Covers, IsVerdictIpv4, IsVerdictIpv6, IsVerdictOver, IsWithoutChecksum, ipv4_pseudo_header, ipv6_pseudo_header, udp_checksum, udp_length}
 use Rattle.packet_parts.specs.declared.checksum.Verdict.TheVariants.{Right}
 use Rattle.packet_parts.specs.declared.ip_slice.IpHeaderSlice.{IpHeaderSlice}
@@ -209,12 +210,15 @@ port_kept (header.Ipv4 view) extensions number offset port payload ports even wi
       port_kept_ipv4 number offset (port / 256 % 256) (port % 256) (slice_range bytes 12 16) last payload ports
           (omega (arith, view.len, view.ihl, length-take 4 (drop 12 bytes), length-drop 12 bytes)) len even within updates right,
     )
-port_kept (header.Ipv6 view) extensions number offset port payload ports even within updates (None, goes, right) = absurd right
-port_kept (header.Ipv6 view) extensions number offset port payload ports even within updates (Some last, goes, right) =
+port_kept (header.Ipv6 view) extensions number offset port payload ports even within updates (None, last, comes, goes, right) = absurd right
+port_kept (header.Ipv6 view) extensions number offset port payload ports even within updates (Some first, None, comes, goes, right) = absurd right
+port_kept (header.Ipv6 view) extensions number offset port payload ports even within updates (Some first, Some last, comes, goes, right) =
     let bytes = view.slice.now in
+    let first_len = comes_len_ipv6 (slice_range bytes 8 24) (slice_index bytes 6) extensions first (omega (arith, view.len, length-take 16 (drop 8 bytes), length-drop 8 bytes)) comes in
     let len = goes_len_ipv6 (slice_range bytes 24 40) (slice_index bytes 6) extensions last (omega (arith, view.len, length-take 16 (drop 24 bytes), length-drop 24 bytes)) goes in (
+      Some first,
       Some last,
+      comes,
       goes,
-      port_kept_ipv6 number offset (port / 256 % 256) (port % 256) (slice_range bytes 8 24) last payload ports
-          (omega (arith, view.len, length-take 16 (drop 8 bytes), length-drop 8 bytes)) len even within updates right,
+      port_kept_ipv6 number offset (port / 256 % 256) (port % 256) first last payload ports first_len len even within updates right,
     )

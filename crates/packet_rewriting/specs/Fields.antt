@@ -16,10 +16,11 @@ use Rattle.etherparse.specs.WordSums.{with_no_zero}
 use Rattle.etherparse.specs.declared.IpEcn.{IpEcn}
 use Rattle.etherparse.specs.declared.net.ipv4_header.Ipv4Header.{Ipv4Header}
 use Rattle.etherparse.specs.declared.net.ipv6_header.Ipv6Header.{Ipv6Header}
-use Rattle.packet_parts.specs.Checksum.{IsVerdictIpv4, IsVerdictOver, IsVerdictTo}
+use Rattle.packet_parts.specs.Checksum.{IsVerdictBetween, IsVerdictIpv4, IsVerdictOver}
 use Rattle.packet_parts.specs.FinalDestination.{GoesToIpv4, GoesToIpv6}
 use Rattle.packet_parts.specs.IpSlice.{IsIpPacket, RefusesIp, header_bytes, header_len_of}
 use Rattle.packet_parts.specs.IpSlice.{ip_slice_error_text}
+use Rattle.packet_parts.specs.OriginalSource.{ComesFromIpv6}
 use Rattle.packet_parts.specs.declared.checksum.Verdict.TheVariants.{Right}
 use Rattle.packet_parts.specs.declared.ip_slice.IpHeaderSlice.{IpHeaderSlice}
 use Rattle.packet_parts.specs.declared.ip_slice.IpHeaderSlice.TheVariants as header
@@ -204,37 +205,45 @@ pub record CutsIpv6 (packet : List ℕ) (header : Ipv6Header) (cut : Cut) : Type
   pub whole : packet
       ≡ header_bytes slice.header ++ slice.extensions.now ++ (slice.payload.now ++ trailer)
 
--- a payload after a change of the source, for which its checksum is updated
-abbrev pub UpdatesForSourceIpv6 : List ℕ → IpSlice → Ipv6Header → Reach → List ℕ → Type 0
-UpdatesForSourceIpv6 source slice header reach payload =
-    UpdatesPayload reach 8 slice.upper header.source source slice.payload.now payload
-
--- a payload after a change of the final destination, for which its checksum is updated; it stays if
--- that is the same, or unknown
-abbrev pub UpdatesForFinal : Reach → ℕ → Option (List ℕ) → Option (List ℕ) → List ℕ → List ℕ
+-- A payload after a change of an address that its checksum covers: the checksum is updated for it.
+-- The payload stays if the address is the same, or unknown.
+abbrev pub UpdatesIfKnown : Reach → ℕ → Option (List ℕ) → Option (List ℕ) → List ℕ → List ℕ
     → Type 0
-UpdatesForFinal reach number (Some old) (Some new) before after =
+UpdatesIfKnown reach number (Some old) (Some new) before after =
     UpdatesIfOther 8 reach number old new before after
-UpdatesForFinal reach number old new before after = after ≡ before
+UpdatesIfKnown reach number old new before after = after ≡ before
 
--- a payload after a change of the destination of its header, and so of the final destination, which
--- a routing header can keep the same
-pub record UpdatesForDestinationIpv6 (destination : List ℕ) (slice : IpSlice) (header : Ipv6Header)
-    (reach : Reach) (payload : List ℕ) : Type 0 where
+-- A payload after an address of its header became another one, `next`. Its checksum covers the
+-- address that `Follows` gives; the extension headers can keep that the same.
+pub record UpdatesForIpv6 (Follows : List ℕ → ℕ → List ℕ → Option (List ℕ) → Type 0)
+    (address next : List ℕ) (slice : IpSlice) (header : Ipv6Header) (reach : Reach)
+    (payload : List ℕ) : Type 0 where
   pub old : Option (List ℕ)
   pub new : Option (List ℕ)
-  pub goes_to_old : GoesToIpv6 header.destination header.next_header slice.extensions.now old
-  pub goes_to_new : GoesToIpv6 destination header.next_header slice.extensions.now new
-  pub updated : UpdatesForFinal reach slice.upper old new slice.payload.now payload
+  pub follows_old : Follows address header.next_header slice.extensions.now old
+  pub follows_new : Follows next header.next_header slice.extensions.now new
+  pub updated : UpdatesIfKnown reach slice.upper old new slice.payload.now payload
 
--- if a payload was right for the final destination of a header, another one is right for that of
--- the next header, before the same extension headers
+-- a payload after a change of the source of its header, and so of the original source
+abbrev pub UpdatesForSourceIpv6 : List ℕ → IpSlice → Ipv6Header → Reach → List ℕ → Type 0
+UpdatesForSourceIpv6 source slice header reach payload =
+    UpdatesForIpv6 ComesFromIpv6 header.source source slice header reach payload
+
+-- a payload after a change of the destination of its header, and so of the final destination
+abbrev pub UpdatesForDestinationIpv6 : List ℕ → IpSlice → Ipv6Header → Reach → List ℕ → Type 0
+UpdatesForDestinationIpv6 destination slice header reach payload =
+    UpdatesForIpv6 GoesToIpv6 header.destination destination slice header reach payload
+
+-- if a payload was right between the original source and the final destination of a header, another
+-- one is right between those of the next header, before the same extension headers
 abbrev pub KeepsRightIpv6 : IpSlice → Ipv6Header → Ipv6Header → List ℕ → Type 0
-KeepsRightIpv6 slice header next payload = (old new : Option (List ℕ))
-    → GoesToIpv6 header.destination header.next_header slice.extensions.now old
-    → GoesToIpv6 next.destination next.next_header slice.extensions.now new
-    → IsVerdictTo header.source old slice.upper slice.payload.now Right
-    → IsVerdictTo next.source new slice.upper payload Right
+KeepsRightIpv6 slice header next payload = (source final next_source next_final : Option (List ℕ))
+    → ComesFromIpv6 header.source header.next_header slice.extensions.now source
+    → GoesToIpv6 header.destination header.next_header slice.extensions.now final
+    → ComesFromIpv6 next.source next.next_header slice.extensions.now next_source
+    → GoesToIpv6 next.destination next.next_header slice.extensions.now next_final
+    → IsVerdictBetween source final slice.upper slice.payload.now Right
+    → IsVerdictBetween next_source next_final slice.upper payload Right
 
 -- An IPv6 packet has another address in place of the old one, and the checksum of its upper layer
 -- is updated for it. Its extension headers and what the link added after it stay.

@@ -104,8 +104,8 @@ pub fn calc_checksum_ipv4(
 }
 
 /// The checksum that a segment should have over IPv6, as [`calc_checksum_ipv4`] has it over IPv4:
-/// that of ICMPv6 covers the pseudo-header too (RFC 4443 section 2.3, RFC 8200 section 8.1). In a
-/// packet with a routing header, the destination has to be the final one.
+/// that of ICMPv6 covers the pseudo-header too (RFC 4443 section 2.3, RFC 8200 section 8.1). The
+/// source has to be the original one, and the destination the final one.
 ///
 /// # Errors
 ///

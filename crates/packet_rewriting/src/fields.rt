@@ -1,6 +1,7 @@
 //! Fields of a whole IP packet, changed where they stand: addresses, ports, DSCP and ECN. The
-//! checksums that cover a field are updated for it (RFC 1624 section 3), so that a right one stays
-//! right, and a wrong one is not repaired.
+//! checksums of the IPv4 header, UDP, TCP and ICMPv6 that cover a field are updated for it (RFC 1624
+//! section 3), so that a right one stays right, and a wrong one is not repaired. Those of other
+//! protocols, and of a mobility or host identity header (135, 139), are left as they are.
 
 ghost use Rattle.std.specs.Prelude.{◌≡◌, ◌+◌, ◌*◌, ◌/◌, ◌%◌, ◌^◌, ◌<◌, ◌≤◌, [], ◌∷◌, drop};
 ghost use Rattle.std.specs.Prelude.{length};
@@ -14,13 +15,14 @@ ghost use Rattle.etherparse.specs.WordSums.{network_order_word_sum};
 ghost use Rattle.etherparse.specs.HeaderChecksum.{with_field_and_checksum};
 ghost use Rattle.packet_parts.specs.FinalDestination.{GoesToIpv6};
 ghost use Rattle.packet_parts.specs.IpSlice.{header_len_of};
+ghost use Rattle.packet_parts.specs.OriginalSource.{ComesFromIpv6};
 ghost use Rattle.packet_rewriting.specs.Fields.{CutsIpv4, CutsIpv6, EndsInUpper, Reaches};
 ghost use Rattle.packet_rewriting.specs.Fields.{HasOtherDestinationIpv4, HasOtherDestinationIpv6};
 ghost use Rattle.packet_rewriting.specs.Fields.{HasOtherSourceIpv4, HasOtherSourceIpv6};
 ghost use Rattle.packet_rewriting.specs.Fields.{ChangesPort, CutsAtPorts, HasOtherDscp};
 ghost use Rattle.packet_rewriting.specs.Fields.{HasOtherEcn, MarksIpv4, MarksIpv6};
 ghost use Rattle.packet_rewriting.specs.Fields.{RefusesAddress, RefusesMark, RefusesPort};
-ghost use Rattle.packet_rewriting.specs.Fields.{UpdatesForFinal, UpdatesIfOther, UpdatesPayload};
+ghost use Rattle.packet_rewriting.specs.Fields.{UpdatesIfKnown, UpdatesIfOther, UpdatesPayload};
 ghost use Rattle.packet_rewriting.specs.Fields.{UpdatesUpper};
 ghost use Rattle.packet_rewriting.specs.Fields.{covers_addresses};
 ghost use Rattle.packet_rewriting.specs.Fields.{has_ports, least_len, rewrite_error_text};
@@ -39,6 +41,7 @@ use etherparse::{IpDscp, IpEcn, IpNumber, Ipv4Header, Ipv6Header, LenSource};
 use etherparse_transport::{TcpHeaderSlice, UdpHeader};
 use packet_parts::final_destination::{final_destination_ipv4, final_destination_ipv6};
 use packet_parts::ip_slice::{IpHeaderSlice, IpSlice, IpSliceError};
+use packet_parts::original_source::original_source_ipv6;
 use std::fmt;
 
 /// Why a packet is not rewritten.
@@ -84,7 +87,7 @@ impl fmt::Display for RewriteError {
 #[derive(Clone, Copy, Debug, PartialEq, Eq)]
 pub enum Reach {
     /// Into the header of UDP, TCP or, over IPv6, ICMPv6, whose checksum is updated too, but where
-    /// [`set_destination_ipv4`] or [`set_destination_ipv6`] says that it stays.
+    /// [`set_destination_ipv4`], [`set_source_ipv6`] or [`set_destination_ipv6`] says that it stays.
     Upper,
     /// It ends with the IP header: the payload is a later fragment. No checksum in it is updated:
     /// the one that covers the address is in the first fragment, but that of TCP over IPv4 in a
@@ -164,10 +167,10 @@ pub fn set_destination_ipv4(packet: &mut [u8], destination: [u8; 4]) -> Result<R
 }
 
 /// Gives an IPv6 packet another source address in place: bytes 8 to 23, and the checksum of UDP,
-/// TCP or ICMPv6, if [`Reach`] says so. A UDP checksum of 0 stays 0. All else stays the same, also
-/// what comes after the packet, and an authentication header (RFC 4302). A checksum that covers
-/// another source becomes wrong: the home address of a mobile node (RFC 6275 section 11.3.1), or one
-/// that Shim6 hides (RFC 5533).
+/// TCP or ICMPv6, if [`Reach`] says so. The checksum covers the [`original_source_ipv6`]: it is
+/// updated if that becomes another one, and stays if that is unknown, or the same because of a Home
+/// Address option (RFC 6275 section 11.3.1). A UDP checksum of 0 stays 0. All else stays the same,
+/// also what comes after the packet, and an authentication header (RFC 4302).
 ///
 /// # Errors
 ///
@@ -201,11 +204,12 @@ pub fn set_source_ipv6(packet: &mut [u8], source: [u8; 16]) -> Result<Reach, Rew
         Ok(found) => found,
         Err(e) => return Err(e),
     };
-    let old = source_in(&header);
-    let next = with_source(header, source);
     let (front, rest) = packet.split_at_mut(cut.header_len);
+    let old = original_in(&header, front);
+    let next = with_source(header, source);
+    let new = original_in(&next, front);
     put_ipv6(front, &next);
-    update_for_ipv6(&mut rest[..cut.payload_len], &cut, old, source);
+    update_if_known(&mut rest[..cut.payload_len], &cut, old, new);
     Ok(cut.reach)
 }
 
@@ -231,7 +235,7 @@ pub fn set_destination_ipv6(packet: &mut [u8], destination: [u8; 16]) -> Result<
     let next = with_destination(header, destination);
     let new = final_in(&next, front);
     put_ipv6(front, &next);
-    update_for_final(&mut rest[..cut.payload_len], &cut, old, new);
+    update_if_known(&mut rest[..cut.payload_len], &cut, old, new);
     Ok(cut.reach)
 }
 
@@ -413,8 +417,17 @@ fn ipv6_parts(packet: &[u8]) -> Result<(Ipv6Header, Cut), RewriteError>
     }
 }
 
-// The final destination of a packet with a header, after whose 40 bytes there are these extension
-// headers.
+// The original source of a packet with a header, after whose 40 bytes there are extension headers.
+fn original_in(header: &Ipv6Header, front: &[u8]) -> Option<[u8; 16]>
+    requires enough { 40 ≤ length front.now }
+    ensures comes_from { ComesFromIpv6 header.now.source header.now.next_header (drop 40 front.now)
+        result }
+{
+    let extensions = &front[Ipv6Header::LEN..];
+    original_source_ipv6(source_in(header), header.next_header, extensions)
+}
+
+// The final destination of such a packet.
 fn final_in(header: &Ipv6Header, front: &[u8]) -> Option<[u8; 16]>
     requires enough { 40 ≤ length front.now }
     ensures goes_to { GoesToIpv6 header.now.destination header.now.next_header (drop 40 front.now)
@@ -424,11 +437,12 @@ fn final_in(header: &Ipv6Header, front: &[u8]) -> Option<[u8; 16]>
     final_destination_ipv6(destination_in(header), header.next_header, extensions)
 }
 
-// Updates the checksum of a payload if the final destination, known before and after, is another.
-fn update_for_final(payload: &mut [u8], cut: &Cut, old: Option<[u8; 16]>, new: Option<[u8; 16]>)
+// Updates the checksum of a payload for another IPv6 address, if both are known and the change
+// reaches it.
+fn update_if_known(payload: &mut [u8], cut: &Cut, old: Option<[u8; 16]>, new: Option<[u8; 16]>)
     requires enough { cut.now.reach ≡ reaching.Upper →
         checksum_place cut.now.upper + 2 ≤ length payload.now }
-    ensures updated { UpdatesForFinal cut.now.reach cut.now.upper old new payload.old payload.new }
+    ensures updated { UpdatesIfKnown cut.now.reach cut.now.upper old new payload.old payload.new }
 {
     match (old, new) {
         (Some(old), Some(new)) if old != new => update_for_ipv6(payload, cut, old, new),

@@ -46,8 +46,9 @@ pub fn is_ipv4_checksum_right(view: &Ipv4HeaderSlice) -> bool
 /// comes after the datagram, by its UDP length, does not count.
 ///
 /// `None` where the packet has no datagram: its payload is of another protocol, or a fragment, or
-/// shorter than 8 bytes or than its UDP length says, or that is below 8; or a routing header does
-/// not tell where the packet goes in the end, which is the destination that the checksum covers.
+/// shorter than 8 bytes or than its UDP length says, or that is below 8; or a routing header or
+/// Shim6 does not tell where the packet goes in the end, which is the destination that the checksum
+/// covers.
 ///
 /// # Errors
 ///

@@ -85,7 +85,9 @@ impl<'a> TcpHeaderSlice<'a> {
     }
 
     /// The checksum over IPv6, as [`TcpHeaderSlice::calc_checksum_ipv4`] gives that over IPv4. With
-    /// a routing header, call the `_raw` form with the final destination (RFC 8200 section 8.1).
+    /// a routing header, call the `_raw` form with the final destination (RFC 8200 section 8.1),
+    /// and if there is a Home Address option, with the home address as source (RFC 6275 section
+    /// 11.3.1).
     ///
     /// # Errors
     ///

@@ -105,7 +105,8 @@ impl UdpHeader {
 
     /// A header for this payload, with its checksum over IPv6: the addresses are those of the IP
     /// header. With a routing header, set [`UdpHeader::calc_checksum_ipv6_raw`] with the final
-    /// destination instead (RFC 8200 section 8.1).
+    /// destination instead (RFC 8200 section 8.1), and if there is a Home Address option, with the
+    /// home address as source (RFC 6275 section 11.3.1).
     ///
     /// # Errors
     ///
@@ -216,7 +217,9 @@ impl UdpHeader {
     }
 
     /// The checksum over IPv6, as [`UdpHeader::calc_checksum_ipv4`] gives that over IPv4. With
-    /// a routing header, call the `_raw` form with the final destination (RFC 8200 section 8.1).
+    /// a routing header, call the `_raw` form with the final destination (RFC 8200 section 8.1),
+    /// and if there is a Home Address option, with the home address as source (RFC 6275 section
+    /// 11.3.1).
     ///
     /// The sum has the field `length` as it stands, in the pseudo-header too. A payload from 65528
     /// bytes on, which that field cannot count, is summed as any other: for a jumbogram, whose

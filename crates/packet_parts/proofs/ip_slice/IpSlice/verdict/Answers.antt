@@ -1,10 +1,11 @@
-use Rattle.std.proofs.Common.{None, slice_range, sym}
+use Rattle.std.proofs.Common.{sym}
 use Rattle.packet_parts.proofs.ip_slice.IpSlice.verdict.Goals as goal
 
-pub returns-in-None : goal.returns-in-None
-returns-in-None c =
-    let goes = rw (c.destination-in-None-Ipv6.ensures.bytes_24_to_39, c.next_header.ensures.byte_6) at c.in-None.ensures.goes_to in
-    record { judges = rw (c.in-None-Ipv6.is-0, c.in-None-Ipv6.is-1) (None, goes, c.verdict_to_unknown.ensures.judges (slice_range c.in-None-Ipv6.view.slice.now 8 24)) }
+pub returns-in-None-Ipv6 : goal.returns-in-None-Ipv6
+returns-in-None-Ipv6 c =
+    let comes = rw (c.source-in-None-Ipv6.ensures.bytes_8_to_23, c.next_header-first.ensures.byte_6) at c.original_source_ipv6-original.ensures.comes_from in
+    let goes = rw (c.destination-in-None-Ipv6.ensures.bytes_24_to_39, c.next_header-first.ensures.byte_6) at c.final_destination_ipv6-last.ensures.goes_to in
+    record { judges = rw (c.in-None-Ipv6.is-0, c.in-None-Ipv6.is-1) (c.original_source_ipv6-original.result, c.final_destination_ipv6-last.result, comes, goes, c.verdict_between.ensures.judges) }
 
 pub returns-in-None-Ipv4 : goal.returns-in-None-Ipv4
 returns-in-None-Ipv4 c =
