@@ -828,7 +828,7 @@ no_captures() {
     packed '\4\42\115\30' 'lz4: lz4cat FILE | ipcap'
     packed '\120\113\3\4' 'zip: unzip -p FILE | ipcap'
     packed 'snoo' 'snoop: tshark -r FILE -w - | ipcap'
-    packed '\64\315\262\241' 'a modified pcap: tcpdump -r FILE -w - | ipcap'
+    packed '\64\315\262\241' 'a modified pcap: tshark -r FILE -w - | ipcap'
 }
 
 # A record of one byte more than is read, the first packet of `stdin`, and a record as long as the

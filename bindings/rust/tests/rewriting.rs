@@ -238,6 +238,33 @@ fn an_address_reaches_as_far_as_a_checksum_covers_it() {
 }
 
 #[test]
+fn another_care_of_address_leaves_the_checksum_for_the_home_address() {
+    // Destination options with a Home Address option of 2001:db8::5.
+    let mut packet = bytes_of(
+        "6000000000243c4020010db800000000000000000000000120010db800000000000000000000000211020102000\
+         0c91020010db800000000000000000000000504000035000cb84e74657374",
+    );
+    let last = packet[40..].to_vec();
+    let verdict = |packet: &[u8]| SlicedPacket::from_ip(packet).unwrap().verdict();
+    assert_eq!(verdict(&packet), Some(Verdict::Right));
+    assert_eq!(
+        set_source_ipv6(&mut packet, longer(0, 0, 0x77)),
+        Ok(Reach::Upper)
+    );
+    assert_eq!(packet[8..24], longer(0, 0, 0x77));
+    assert_eq!(packet[40..], last);
+    assert_eq!(verdict(&packet), Some(Verdict::Right));
+    // An option of another type is no home address: the source of the header is the original one.
+    packet[46] = 0xca;
+    assert_eq!(verdict(&packet), Some(Verdict::Wrong));
+    assert_eq!(
+        set_source_ipv6(&mut packet, longer(0, 0, 0x78)),
+        Ok(Reach::Upper)
+    );
+    assert_eq!(packet[70..72], [0xb8, 0x4d]);
+}
+
+#[test]
 fn another_next_stop_leaves_the_checksum_for_the_final_destination() {
     // Segment routing to 2001:db8::4, with one segment left.
     let mut packet = bytes_of(

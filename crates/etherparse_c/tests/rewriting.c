@@ -141,6 +141,7 @@ static void longer_addresses(void)
     static const uint8_t destination[16] = {0x20, 0x01, 0x0d, 0xb8, 0, 5, 0, 0, 0, 0, 0, 0, 0, 0, 0, 0x99};
     uint8_t message[50];
     uint8_t segment[63];
+    uint8_t mobile[76];
     uint8_t older[32];
     bytes_of("60000000000a3a4020010db800000000000000000000000120010db80000000000000000000000028000b0ae123400016162", message);
     EXPECT(etherparse_set_source_ipv6(message, sizeof message, source).reach, ETHERPARSE_REACH_UPPER);
@@ -152,6 +153,12 @@ static void longer_addresses(void)
     EXPECT(etherparse_set_destination_ipv6(segment, sizeof segment, destination).reach, ETHERPARSE_REACH_UPPER);
     EXPECT_BYTES(segment, "62b123450017064020010db812340000000000000000007720010db80005000000000000000000999c401f90010203040506070850182000"
                           "90c70000616263");
+    /* The checksum of a mobile node covers its home address, 2001:db8::5, wherever it sends from. */
+    bytes_of("6000000000243c4020010db800000000000000000000000120010db8000000000000000000000002110201020000c91020010db800000000"
+             "000000000000000504000035000cb84e74657374", mobile);
+    EXPECT(etherparse_set_source_ipv6(mobile, sizeof mobile, source).reach, ETHERPARSE_REACH_UPPER);
+    EXPECT_BYTES(mobile, "6000000000243c4020010db812340000000000000000007720010db8000000000000000000000002110201020000c910"
+                         "20010db800000000000000000000000504000035000cb84e74657374");
     bytes_of("45000020000000004011f8b4c0a80001c0a800c704000035000c000074657374", older);
     EXPECT(etherparse_set_source_ipv6(older, sizeof older, source).error, ETHERPARSE_REWRITING_OTHER_VERSION);
 }

@@ -309,7 +309,7 @@ report_text mode has_filter totals = closing_line has_filter totals
 
 -- a format that is not read, and the command that makes a capture of a file in it
 abbrev pub other_format : FileFormat → Option (List ℕ)
-other_format format.ModifiedPcap = Some (codes "a modified pcap: tcpdump -r FILE -w - | ipcap")
+other_format format.ModifiedPcap = Some (codes "a modified pcap: tshark -r FILE -w - | ipcap")
 other_format format.Snoop = Some (codes "snoop: tshark -r FILE -w - | ipcap")
 other_format format.Gzip = Some (codes "gzip: zcat FILE | ipcap")
 other_format format.Zstandard = Some (codes "zstd: zstdcat FILE | ipcap")

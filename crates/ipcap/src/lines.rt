@@ -579,7 +579,7 @@ fn other_format_named(magic: u32) -> Option<&'static str>
         (λ other. other_format_named magic ≡ Some other.now) }
 {
     let other = match format_named(magic)? {
-        FileFormat::ModifiedPcap => "a modified pcap: tcpdump -r FILE -w - | ipcap",
+        FileFormat::ModifiedPcap => "a modified pcap: tshark -r FILE -w - | ipcap",
         FileFormat::Snoop => "snoop: tshark -r FILE -w - | ipcap",
         FileFormat::Gzip => "gzip: zcat FILE | ipcap",
         FileFormat::Zstandard => "zstd: zstdcat FILE | ipcap",
