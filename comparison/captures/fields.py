@@ -11,18 +11,19 @@ failed': packets that are the same but for such differences, and the others. A f
 """
 import argparse
 import collections
+import fractions
 import ipaddress
 import pathlib
 import subprocess
 import sys
 
 PROGRAM = pathlib.Path(__file__).resolve().parents[2] / 'crates/ipcap/out/ipcap'
-FIELDS = ('frame.time_epoch', 'frame.cap_len', 'frame.len', 'frame.protocols', 'ip.version', 'ip.src', 'ip.dst', 'ip.ttl',
-          'ip.proto', 'ip.hdr_len', 'ip.len', 'ip.id', 'ip.frag_offset', 'ip.flags.mf', 'ip.checksum.status', 'ipv6.src',
-          'ipv6.dst', 'ipv6.hlim', 'ipv6.nxt', 'ipv6.plen', 'ipv6.hopopts.nxt', 'ipv6.routing.nxt', 'ipv6.dstopts.nxt',
-          'ah.next_header', 'ipv6.fraghdr.nxt', 'ipv6.fraghdr.offset', 'ipv6.fraghdr.more', 'ipv6.fraghdr.ident', 'udp.srcport',
-          'udp.dstport', 'udp.checksum.status', 'tcp.srcport', 'tcp.dstport', 'tcp.checksum', 'tcp.checksum.status', 'icmp.type',
-          'icmp.code', 'icmp.checksum.status', 'icmpv6.type', 'icmpv6.code', 'icmpv6.checksum.status')
+FIELDS = ('frame.time_epoch', 'frame.encap_type', 'frame.cap_len', 'frame.len', 'frame.protocols', 'ip.version', 'ip.src', 'ip.dst',
+          'ip.ttl', 'ip.proto', 'ip.hdr_len', 'ip.len', 'ip.id', 'ip.frag_offset', 'ip.flags.mf', 'ip.checksum.status', 'ipv6.src',
+          'ipv6.dst', 'ipv6.hlim', 'ipv6.nxt', 'ipv6.plen', 'ipv6.hopopts.nxt', 'ipv6.routing.nxt', 'ipv6.dstopts.nxt', 'ah.next_header',
+          'ipv6.fraghdr.nxt', 'ipv6.fraghdr.offset', 'ipv6.fraghdr.more', 'ipv6.fraghdr.ident', 'udp.srcport', 'udp.dstport',
+          'udp.checksum.status', 'tcp.srcport', 'tcp.dstport', 'tcp.checksum', 'tcp.checksum.status', 'icmp.type', 'icmp.code',
+          'icmp.checksum.status', 'icmpv6.type', 'icmpv6.code', 'icmpv6.checksum.status')
 # tshark is not to put anything together, and is to verify every checksum, also where the total length is 0.
 OPTIONS = ('ip.defragment:FALSE', 'ipv6.defragment:FALSE', 'tcp.desegment_tcp_streams:FALSE', 'tcp.analyze_sequence_numbers:FALSE',
            'wlan.enable_decryption:FALSE', 'ip.check_checksum:TRUE', 'tcp.check_checksum:TRUE', 'udp.check_checksum:TRUE')
@@ -47,7 +48,9 @@ def of_tshark(name):
     words = [word for option in OPTIONS for word in ('-o', option)] + [word for field in FIELDS for word in ('-e', field)]
     command = ['tshark', '-n', '-r', name, *words, '-T', 'fields', '-E', 'separator=|', '-E', 'occurrence=f']
     text = subprocess.run(command, capture_output=True, check=False).stdout.decode('latin1')
-    return [dict(zip(FIELDS, line.split('|'))) for line in text.splitlines()]
+    # What tshark shows of other blocks of pcapng, such as custom and journal blocks, has no link type.
+    told = [dict(zip(FIELDS, line.split('|'))) for line in text.splitlines()]
+    return [of_one for of_one in told if of_one['frame.encap_type']]
 
 
 def digits_of(name):
@@ -120,6 +123,8 @@ def reason(key, ours, theirs, words, told, digits):
     is_later = words[3] == '>' and '@' in words[12] and not words[12].rstrip('+').endswith('@0')
     if key == 'time' and (len(ours.partition('.')[2]) > digits or theirs.startswith('-') or not theirs):
         return 'a fraction of a second that is one or more, a time before 1970, or none'
+    if key == 'time' and theirs.startswith(ours) and bin(fractions.Fraction(theirs).denominator).count('1') == 1:
+        return 'a unit of a power of two above a microsecond, whose time is cut at six digits'
     if key in ('upper', 'length') and words[5].isdigit() and int(words[5]) in NEXT and 'cut' in words:
         return 'a packet that was truncated within its extension headers'
     if key == 'cut' and (max(map(int, ours or theirs)) > 2 ** 31 or int(theirs[0]) > int(theirs[1])):
