@@ -1,6 +1,6 @@
 //! Fragments of IP packets put together, in memory that the caller lends.
 //!
-//! What the fragments of a packet say does not depend on the order in which they come, nor on
+//! The datagram that fragments give does not depend on the order in which they come, nor on
 //! repetitions. Two that contradict each other discard the datagram (RFC 5722, RFC 8200 section 4.5;
 //! of IPv4 too, by choice).
 

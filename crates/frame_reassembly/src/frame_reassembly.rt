@@ -104,8 +104,8 @@ impl<'a, 'b> FrameReassembly<'a, 'b> {
     ///
     /// A packet that is not all there is not added, nor one that [`IpDefragPool::add_packet`]
     /// refuses, nor one whose IPv4 header checksum is wrong: a host discards it (RFC 1122 section
-    /// 3.2.1.2). A datagram is given up 60 seconds after its first fragment, once another fragment
-    /// with its identification comes; or for room, if it is the oldest.
+    /// 3.2.1.2). A datagram is given up 60 seconds after the first of its fragments that came, once
+    /// another one of them comes; or for room, if it is the oldest.
     ///
     /// # Example
     ///

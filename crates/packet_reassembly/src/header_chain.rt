@@ -9,7 +9,7 @@ use packet_parts::extensions::after_extensions;
 /// Whether the payload of a first fragment has the rest of the header chain: the extension headers
 /// after the fragment header, which names the first of them, and the header of the upper layer. A
 /// first fragment without that is to be refused (RFC 7112 section 5), since what it lacks decides
-/// who takes the packet. After one more fragment header, whose offset is not 0, it lacks all of it.
+/// who takes the packet. After one more fragment header whose offset is not 0, the rest is missing.
 ///
 /// An upper-layer header counts if RFC 8200 section 4.5 names it: 20 bytes of TCP or IPv4, or as
 /// many as the data offset or the IHL says; 8 of UDP; 40 of IPv6; 8 of ESP; 4 of ICMPv6. Nothing is

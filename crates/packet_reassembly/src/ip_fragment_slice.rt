@@ -46,7 +46,7 @@ pub struct IpFragmentSlice<'a> {
     pub payload: &'a [u8],
 }
 
-/// The fragment that a packet is; `None` if it is no fragment. So is one with atomic fragment
+/// The fragment that a packet is; `None` if it is no fragment. Nor is one with atomic fragment
 /// headers alone, which is never put together with others (RFC 6946).
 ///
 /// A fragment of IPv6 can end within an extension header after its fragment header:

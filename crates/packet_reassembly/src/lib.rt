@@ -1,4 +1,4 @@
-//! Reassembly of fragmented IP packets. What the fragments of a packet say does not depend on the
+//! Reassembly of fragmented IP packets. The datagram that fragments give does not depend on the
 //! order in which they come. No memory is allocated: the caller lends it.
 #![tactic(auto)]
 

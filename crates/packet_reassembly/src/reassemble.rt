@@ -19,8 +19,8 @@ pub struct IpFragment<'a> {
     pub payload: &'a [u8],
 }
 
-/// What all these fragments are, one after another. Those that [`IpDefragBuf::add`] refuses are
-/// passed over. If some are missing, they can be added. `bytes` has to have at least
+/// What all these fragments are together, as if each were added. Those that [`IpDefragBuf::add`]
+/// refuses are passed over. If some are missing, they can be added. `bytes` has to have at least
 /// [`IpDefragBuf::MAX_LEN`] bytes, and `units` at least [`IpDefragBuf::UNITS`].
 pub fn reassemble<'a>(
     bytes: &'a mut [u8],
@@ -58,8 +58,8 @@ fn add_or_pass(buf: &mut IpDefragBuf, offset: IpFragOffset, more_fragments: bool
     }
 }
 
-/// What datagram the fragments are depends on which of them came alone, and not on their order, nor
-/// on how often each came, nor on those that are refused.
+/// What datagram the fragments are depends only on which of them came, not on their order, nor on
+/// how often each came, nor on those that are refused.
 #[tactic(auto, using(crate::proofs::Arrivals::held_same, crate::proofs::Arrivals::conflict_same))]
 pub fn order_law()
     ensures whole { (xs ys : List F) → HaveSameRight xs ys → (datagram : List ℕ) →

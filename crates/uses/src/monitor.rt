@@ -18,7 +18,7 @@ pub enum Seen {
 }
 
 /// What a monitor has of a packet that it sees: that packet, or the one that was cut into fragments,
-/// written to `out` once the last of them has come. It misses none whose fragments have come.
+/// written to `out` once the last of them has come.
 pub fn watch(pool: &mut IpDefragPool, packet: &[u8], now: u64, out: &mut [u8]) -> Seen
     requires some { 0 < length pool.old.slots.now }
     requires headers { HaveFirstHeaders pool.old.slots.now }
