@@ -53,26 +53,26 @@ def ones_complement_sum(data):
     return total
 
 
-def pseudo_header(parts, number, length, ends=None):
+def pseudo_header(parts, number, length, covered=None):
     """RFC 768 and RFC 9293 section 3.1; RFC 8200 section 8.1"""
     tells = (struct.pack('!xBH', number, length) if parts['version'] == 4
              else struct.pack('!I3xB', length, number))
-    source, destination = ends or (parts['source'], parts['destination'])
+    source, destination = covered or (parts['source'], parts['destination'])
     return source + destination + tells
 
 
-def ends_of(parts):
+def covered_by(parts):
     """the source and the destination that a checksum covers; None if one is not known"""
-    ends = parts['original'], parts['final']
-    return None if None in ends else ends
+    covered = parts['original'], parts['final']
+    return None if None in covered else covered
 
 
 def is_all_ones(parts, number, datagram):
     """whether the words of a datagram and its pseudo-header sum to all ones, between the original
     source and the final destination; no if one is not known"""
-    ends = ends_of(parts)
-    return ends is not None and ones_complement_sum(
-        pseudo_header(parts, number, len(datagram), ends) + datagram) == 0xffff
+    covered = covered_by(parts)
+    return covered is not None and ones_complement_sum(
+        pseudo_header(parts, number, len(datagram), covered) + datagram) == 0xffff
 
 
 def stops_of(header):
@@ -867,12 +867,13 @@ def ask_scapy(packet, read):
     ends = dict(src=text_of(parts['source']), dst=text_of(parts['destination']))
     ask_scapy_of_header(packet, parts, bare(packet), ends)
     sum_of = in4_chksum if parts['version'] == 4 else in6_chksum
-    last = ends_of(parts) and bare(**dict(zip(('src', 'dst'), map(text_of, ends_of(parts)))))
+    covered = covered_by(parts)
+    covering = covered and bare(**dict(zip(('src', 'dst'), map(text_of, covered))))
     if 'udp' in read:
         ask_scapy_of_udp(packet, parts, read['udp'], sum_of, lambda: bare(**ends, **{number: 17}),
-                         last)
+                         covering)
     if 'tcp' in read:
-        is_right = bool(last) and sum_of(6, last, parts['payload']) == 0
+        is_right = bool(covering) and sum_of(6, covering, parts['payload']) == 0
         agree('scapy', 'TCP checksum', packet, is_right, read['tcp']['right'])
         ask_scapy_of_tcp(packet, TCP(parts['payload']), read['tcp'])
     if read.get('echo', {}).get('reply'):
@@ -898,7 +899,7 @@ def ask_scapy_of_header(packet, parts, ip, ends):
     agree('scapy', 'bytes within the length field', packet, kept, parts['body'])
 
 
-def ask_scapy_of_udp(packet, parts, udp_read, sum_of, carrier, last):
+def ask_scapy_of_udp(packet, parts, udp_read, sum_of, carrier, covering):
     segment = UDP(parts['payload'])
     agree('scapy', 'UDP fields', packet,
           (segment.sport, segment.dport, segment.len, segment.chksum),
@@ -906,7 +907,7 @@ def ask_scapy_of_udp(packet, parts, udp_read, sum_of, carrier, last):
     if 'right' not in udp_read:
         return
     datagram = parts['payload'][:segment.len]
-    is_right = bool(last) and sum_of(17, last, datagram) == 0
+    is_right = bool(covering) and sum_of(17, covering, datagram) == 0
     is_none = segment.chksum == 0
     agree('scapy', 'UDP checksum', packet,
           is_right or is_none if parts['version'] == 4 else is_right and not is_none,

@@ -241,8 +241,8 @@ fn an_address_reaches_as_far_as_a_checksum_covers_it() {
 fn another_care_of_address_leaves_the_checksum_for_the_home_address() {
     // Destination options with a Home Address option of 2001:db8::5.
     let mut packet = bytes_of(
-        "6000000000243c4020010db800000000000000000000000120010db800000000000000000000000211020102000\
-         0c91020010db800000000000000000000000504000035000cb84e74657374",
+        "6000000000243c4020010db800000000000000000000000120010db80000000000000000000000021102010200\
+         00c91020010db800000000000000000000000504000035000cb84e74657374",
     );
     let last = packet[40..].to_vec();
     let verdict = |packet: &[u8]| SlicedPacket::from_ip(packet).unwrap().verdict();

@@ -120,7 +120,7 @@ impl Icmpv6Type {
     /// The checksum of a message of this type that has this payload, between these addresses. In a
     /// packet with a routing header, the destination has to be the last one (RFC 8200 section 8.1);
     /// with a Home Address option, the source has to be the home address (RFC 6275 section 11.3.1).
-    /// It is never 65535.
+    /// The checksum is never 65535.
     ///
     /// # Errors
     ///

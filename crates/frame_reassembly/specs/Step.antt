@@ -21,8 +21,8 @@ use Rattle.frame_reassembly.specs.Carrying.{CarriesNone, CarriesPacket, inner_id
 use Rattle.frame_reassembly.specs.Counts.{counted}
 use Rattle.frame_reassembly.specs.declared.datagrams.Datagrams.{Datagrams}
 
--- how long after its first fragment a datagram is given up, in nanoseconds: 60 seconds (RFC 8200
--- section 4.5, RFC 1122 section 3.3.2)
+-- how long after its first-arriving fragment a datagram is given up, in nanoseconds: 60 seconds
+-- (RFC 8200 section 4.5, RFC 1122 section 3.3.2)
 abbrev pub reassembly_timeout : ℕ
 reassembly_timeout = 60 * 10 ^ 9
 

@@ -67,7 +67,7 @@ use Rattle.packet_parts.proofs.IpParts.{packet_len_4, packet_len_6}
 use Rattle.packet_parts.specs.Checksum.{Covers, IsVerdict, IsVerdictOver, IsWithoutChecksum, ipv4_pieces, ipv6_pseudo_header, udp_checksum, udp_length}
 use Rattle.packet_parts.specs.Extensions.{at_front}
 use Rattle.packet_parts.proofs.FinalDestinations.{goes_somewhere_ipv4}
-use Rattle.packet_parts.specs.CoveredAddresses.{arrives}
+use Rattle.packet_parts.specs.CoveredAddresses.{stays}
 use Rattle.packet_parts.specs.FinalDestination.{GoesToIpv4}
 use Rattle.packet_parts.specs.IpSlice.{HasIpParts, IpHeaderParts, IsWhole, header_len_of, header_parts, ip_parts}
 use Rattle.packet_parts.specs.declared.checksum.Verdict.TheVariants.{Right}
@@ -491,8 +491,8 @@ found_right (ip.Ipv6 given) (ip.Ipv6 made) protocol ip_bytes upper is before cov
     let next = is.next_header ∙ ap (λ h. h.next_header) before in (
       Some (slice_range ip_bytes 8 24),
       Some (slice_range ip_bytes 24 40),
-      arrives (λ skippable. covered_is_no_extension protocol upper covers (rw next at skippable)),
-      arrives (λ skippable. covered_is_no_extension protocol upper covers (rw next at skippable)),
+      stays (λ skippable. covered_is_no_extension protocol upper covers (rw next at skippable)),
+      stays (λ skippable. covered_is_no_extension protocol upper covers (rw next at skippable)),
       (
         upper,
         covers,

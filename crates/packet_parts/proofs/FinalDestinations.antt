@@ -8,8 +8,7 @@ use Rattle.etherparse_net.specs.Ipv4Options.{BeginsWithIpv4Options, IsOnlyIpv4Li
 use Rattle.etherparse_net.specs.declared.err.ipv4_option_error.Ipv4OptionError.{Ipv4OptionError}
 use Rattle.etherparse_net.proofs.IpOptions.{ipv4_options_listed}
 use Rattle.packet_parts.proofs.CoveredAddresses.{LeavesOne, followed_len, followed_once}
-use Rattle.packet_parts.specs.CoveredAddresses.{hides_addresses}
-use Rattle.packet_parts.specs.FinalDestination.{GoesToIpv4, GoesToIpv6, HasFirstRoute, LeavesDestination, is_source_route, has_addresses_left, after_route, after_header, cmpr_e, first_in_list, last_address, last_compressed, last_in_list, only_address, others_len, segments_left}
+use Rattle.packet_parts.specs.FinalDestination.{GoesToIpv4, GoesToIpv6, HasFirstRoute, LeavesDestination, is_source_route, has_addresses_left, after_route, cmpr_e, destination_after, first_in_list, last_address, last_compressed, last_in_list, only_address, others_len, segments_left}
 
 -- a header leaves one destination
 left_once : LeavesOne LeavesDestination
@@ -48,9 +47,9 @@ last_is_16 : (d header : List ℕ) → length d ≡ 16 → 1 ≤ segments_left h
 last_is_16 d header len left = either_is_16 _ (last_in_list header) _ (λ _. list_is_16 header left) (either_is_16 _ (only_address header) _ (λ _. only_is_16 header)
     (either_is_16 _ (last_compressed d header) _ (λ _. compressed_is_16 d header len) (either_is_16 _ (first_in_list header) None (λ _. first_is_16 header) none_is_16)))
 
-after_is_16 : (d : List ℕ) (n : ℕ) (header : List ℕ) → length d ≡ 16 → Is16 (after_header d n header)
-after_is_16 d n header len = either_is_16 _ (last_address d header) _ (λ on. last_is_16 d header len (grind (arith, common_steps, on)))
-    (either_is_16 (hides_addresses n header) None (Some d) (λ _. none_is_16) (λ next is. grind (arith, common_steps, is, len)))
+after_is_16 : (d : List ℕ) (n : ℕ) (header : List ℕ) → length d ≡ 16 → Is16 (destination_after d n header)
+after_is_16 d n header len = either_is_16 _ (last_address d header) (Some d) (λ on. last_is_16 d header len (grind (arith, common_steps, on)))
+    (λ next is. grind (arith, common_steps, is, len))
 
 pub goes_len_ipv6 : (d : List ℕ) (n : ℕ) (s f : List ℕ) → length d ≡ 16 → GoesToIpv6 d n s (Some f) → length f ≡ 16
 goes_len_ipv6 = followed_len LeavesDestination (λ d n h x len is. after_is_16 d n h len x (sym is))

@@ -1,10 +1,8 @@
 -- An IPv6 packet has one original source.
-use Rattle.std.proofs.Common.{ℕ, Bool, true, false, if◌then◌else◌, ◌≡◌, ◌≢◌, ◌∙◌, List, [], ◌∷◌, ◌++◌, None, Option, Result, Some, ap, arith, drop, length, length-drop, refl, sym}
+use Rattle.std.proofs.Common.{ℕ, Bool, true, false, if◌then◌else◌, ◌≡◌, ◌∙◌, IsSomeAnd, MatchBool, List, [], ◌∷◌, ◌++◌, None, Option, Some, ap, arith, drop, length, length-drop, refl, sym}
 use Rattle.std.proofs.Common.{◌==◌}
-use Rattle.std.proofs.lemmas.Bool.Decides.{nat_tests}
 use Rattle.std.proofs.lemmas.Grind.{common_steps}
-use Rattle.etherparse_net.specs.Ipv6Options.{BeginsWithIpv6Options, IsOnlyIpv6Listing}
-use Rattle.etherparse_net.specs.declared.err.incomplete_option.IncompleteOption.{IncompleteOption}
+use Rattle.etherparse_net.specs.Ipv6Options.{BeginsWithIpv6Options}
 use Rattle.packet_parts.proofs.CoveredAddresses.{LeavesLen, LeavesOne, LeavesSome, followed_known, followed_len, followed_once}
 use Rattle.packet_parts.specs.OriginalSource.{ComesFromIpv6, HasSourceAfter, LeavesSource, after_option, after_options, is_home_address}
 
@@ -13,16 +11,14 @@ sources_once : (d s a b : List ℕ) → HasSourceAfter d s a → HasSourceAfter 
 sources_once d s a b x y = x.is_next ∙ ap (after_options d) (sym (x.lists.only y.options y.end y.lists.lists).0) ∙ sym y.is_next
 
 left_once : LeavesOne LeavesSource
-left_once d n h a b x y = by (n == 60) refl
+left_once d n h = by (n == 60)
   where
-    by : (at : Bool) → (n == 60) ≡ at → a ≡ b
-    by true is =
-        let p = x.options (grind (arith, nat_tests, is)) in
-        let q = y.options (grind (arith, nat_tests, is)) in
-        p.2 ∙ ap Some (sources_once d (drop 2 h) p.0 q.0 p.1 q.1) ∙ sym q.2
-    by false is =
-        let other : n ≢ 60 = λ at. grind (arith, nat_tests, is, at) in
-        x.other other ∙ sym (y.other other)
+    by : (at : Bool) (a b : Option (List ℕ)) → MatchBool at (IsSomeAnd a (HasSourceAfter d (drop 2 h))) (a ≡ Some d)
+        → MatchBool at (IsSomeAnd b (HasSourceAfter d (drop 2 h))) (b ≡ Some d) → a ≡ b
+    by true (Some x) (Some y) p q = ap Some (sources_once d (drop 2 h) x y p q)
+    by true None b p q = absurd p
+    by true (Some x) None p q = absurd q
+    by false a b p q = p ∙ sym q
 
 pub comes_once_ipv6 : (d : List ℕ) (n : ℕ) (s : List ℕ) (a b : Option (List ℕ)) → ComesFromIpv6 d n s a → ComesFromIpv6 d n s b → a ≡ b
 comes_once_ipv6 = followed_once LeavesSource left_once
@@ -37,32 +33,23 @@ after_len d (option ∷ options) len = after_len (after_option d option) options
     by true is = grind (arith, common_steps, is, length-drop 2 option)
 
 left_len : LeavesLen LeavesSource
-left_len d n h x len left = by (n == 60) refl
+left_len d n h x len = by (n == 60)
   where
-    by : (at : Bool) → (n == 60) ≡ at → length x ≡ 16
-    by true is =
-        let p = left.options (grind (arith, nat_tests, is)) in
-        let same : x ≡ p.0 = cc in
-        ap length same ∙ ap length p.1.is_next ∙ after_len d p.1.options len
-    by false is =
-        let other = left.other (λ at. grind (arith, nat_tests, is, at)) in
-        grind (arith, common_steps, other, len)
+    by : (at : Bool) → MatchBool at (IsSomeAnd (Some x) (HasSourceAfter d (drop 2 h))) (Some x ≡ Some d) → length x ≡ 16
+    by true p = ap length p.is_next ∙ after_len d p.options len
+    by false same = grind (arith, common_steps, same, len)
 
 pub comes_len_ipv6 : (d : List ℕ) (n : ℕ) (s f : List ℕ) → length d ≡ 16 → ComesFromIpv6 d n s (Some f) → length f ≡ 16
 comes_len_ipv6 = followed_len LeavesSource left_len
 
--- whether it is known does not depend on the source
+-- if one source is known, so is another
 left_known : LeavesSome LeavesSource
-left_known d e n h x p q = by (n == 60) refl
+left_known d e n h x = by (n == 60)
   where
-    by : (at : Bool) → (n == 60) ≡ at → ⊥
-    by true is =
-        let none = (q.options (grind (arith, nat_tests, is))).2 in
-        cc
-    by false is =
-        let some = p.other (λ at. grind (arith, nat_tests, is, at)) in
-        let none = q.other (λ at. grind (arith, nat_tests, is, at)) in
-        grind (arith, common_steps, some, none)
+    by : (at : Bool) → MatchBool at (IsSomeAnd (Some x) (HasSourceAfter d (drop 2 h))) (Some x ≡ Some d)
+        → MatchBool at (IsSomeAnd None (HasSourceAfter e (drop 2 h))) (◌≡◌ {A = Option (List ℕ)} None (Some e)) → ⊥
+    by true p q = q
+    by false p q = cc
 
 pub comes_known_ipv6 : (d e : List ℕ) (n : ℕ) (s a : List ℕ) → ComesFromIpv6 d n s (Some a) → ComesFromIpv6 e n s None → ⊥
 comes_known_ipv6 = followed_known LeavesSource left_known
@@ -86,7 +73,3 @@ source_on source s t option at next last same read on = record {
   begins = (rw same at on) read.options read.begins;
   is_next = rw read.is_next (sym (after_more source read.options option));
 }
-
-pub source_after : {source s last : List ℕ} {options : List (List ℕ)} {end : Result (List ℕ) IncompleteOption} → IsOnlyIpv6Listing s options end
-    → last ≡ after_options source options → HasSourceAfter source s last
-source_after {options = options} {end = end} listing is = record { options = options; end = end; lists = listing; is_next = is }

@@ -133,7 +133,8 @@ IsVerdictOver (header.Ipv4 view) extensions = λ protocol payload verdict. (fina
     × IsVerdictIpv4 (source_of (header.Ipv4 view)) final protocol payload verdict
 IsVerdictOver (header.Ipv6 view) extensions = λ number payload verdict.
     (original final : Option (List ℕ))
-    × ComesFromIpv6 (source_of (header.Ipv6 view)) (slice_index view.slice.now 6) extensions original
+    × ComesFromIpv6 (source_of (header.Ipv6 view)) (slice_index view.slice.now 6) extensions
+    original
     × GoesToIpv6 (destination_of (header.Ipv6 view)) (slice_index view.slice.now 6) extensions final
     × IsVerdictBetween original final number payload verdict
 

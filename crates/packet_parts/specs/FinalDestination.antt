@@ -1,12 +1,12 @@
 -- The final destination of a packet, which its checksums cover. A source route of IPv4 and a
 -- routing header of IPv6 send a packet over several stops. On the way, the destination of the
--- header is the next stop. Shim6 hides the addresses that checksums cover.
+-- header is the next stop.
 use Rattle.std.specs.Prelude.{ℕ, ◌≡◌, ◌+◌, ◌-◌, ◌*◌, ◌/◌, ◌%◌, ◌==◌, ◌&&◌, ◌||◌, not}
 use Rattle.std.specs.Prelude.{Bool, List, ◌++◌, drop, find, length, slice_index, slice_range, take}
 use Rattle.std.specs.Prelude.{Option, Result, Some, None, if◌then◌else◌, nat_le}
 use Rattle.etherparse_net.specs.Ipv4Options.{IsOnlyIpv4Listing}
 use Rattle.etherparse_net.specs.declared.err.ipv4_option_error.Ipv4OptionError.{Ipv4OptionError}
-use Rattle.packet_parts.specs.CoveredAddresses.{FollowsIpv6, hides_addresses}
+use Rattle.packet_parts.specs.CoveredAddresses.{FollowsIpv6}
 
 -- ---- IPv4
 
@@ -106,21 +106,20 @@ last_address destination header =
     else (if slice_index header 2 == 4 then first_in_list header else None)))
 
 -- The destination after an extension header of a number. A routing header (43) with segments left
--- makes it its last address, and a payload header of Shim6 an unknown one; any other header leaves
--- it as it is.
-abbrev pub after_header : List ℕ → ℕ → List ℕ → Option (List ℕ)
-after_header destination number header =
+-- makes it its last address; any other header leaves it as it is.
+abbrev pub destination_after : List ℕ → ℕ → List ℕ → Option (List ℕ)
+destination_after destination number header =
     if number == 43 && not (segments_left header == 0) then last_address destination header
-    else if hides_addresses number header then None else Some destination
+    else Some destination
 
 -- what an extension header of a number leaves as the destination
 abbrev pub LeavesDestination : List ℕ → ℕ → List ℕ → Option (List ℕ) → Type 0
-LeavesDestination destination number header next = next ≡ after_header destination number header
+LeavesDestination destination number header next = next ≡ destination_after destination number header
 
--- The final destination of a packet of IPv6 (RFC 8200 section 8.1), from the destination of its
--- header, the number of its first extension header and the bytes of all of them. It is unknown if a
--- routing header with segments left has no last address, Shim6 hides it, or a header is incomplete.
--- The compressed segments of RFC 9800 are not looked into.
+-- The final destination of an IPv6 packet (RFC 8200 section 8.1), from the destination of its
+-- header, the number of its first extension header and the bytes of all of them. It is unknown too
+-- if a routing header with segments left has no last address. The compressed segments of RFC 9800
+-- are not looked into.
 abbrev pub GoesToIpv6 : List ℕ → ℕ → List ℕ → Option (List ℕ) → Type 0
 GoesToIpv6 destination first extensions final =
     FollowsIpv6 LeavesDestination destination first extensions final

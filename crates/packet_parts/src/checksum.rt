@@ -1,8 +1,7 @@
 //! The checksums of UDP, TCP, ICMP and ICMPv6: the pseudo-headers that they cover, and what a
 //! receiver finds of them.
 
-ghost use Rattle.std.specs.Prelude.{ℕ, ◌≡◌, ◌≢◌, ◌↔◌, ◌<◌, ◌≤◌, IfErr, IfOk, IsTrue, List, None};
-ghost use Rattle.std.specs.Prelude.{Some, length};
+ghost use Rattle.std.specs.Prelude.{◌≡◌, ◌≢◌, ◌↔◌, ◌<◌, ◌≤◌, IfErr, IfOk, IsTrue, Some, length};
 ghost use Rattle.etherparse.specs.WordSums.{StandsForWords};
 ghost use Rattle.packet_parts.specs.Checksum.{Covers, IsAbsent, IsRightIpv4, IsRightIpv6};
 ghost use Rattle.packet_parts.specs.Checksum.{IsVerdictIpv4, IsVerdictIpv6};
@@ -167,7 +166,7 @@ pub fn ipv4_verdict(
 
 /// The verdict on the checksum of an IPv6 packet's payload that is no fragment, from both addresses
 /// and the number of the payload, which has to end where the payload length says. The source is the
-/// original one (RFC 6275 section 11.3.1), as [`original_source_ipv6`] gives it, and the destination
+/// original one (RFC 6275 section 11.3.1), as [`original_source_ipv6`] gives it; the destination is
 /// the final one (RFC 8200 section 8.1), as [`final_destination_ipv6`] gives it.
 ///
 /// # Example

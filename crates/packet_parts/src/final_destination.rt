@@ -3,12 +3,12 @@
 
 ghost use Rattle.std.specs.Prelude.{ℕ, ◌≡◌, ◌≤◌, List, Option, Some, length, option_map};
 ghost use Rattle.packet_parts.specs.FinalDestination.{GoesToIpv4, GoesToIpv6, HasFirstRoute};
-ghost use Rattle.packet_parts.specs.FinalDestination.{after_header, after_route, first_in_list};
-ghost use Rattle.packet_parts.specs.FinalDestination.{is_source_route};
+ghost use Rattle.packet_parts.specs.FinalDestination.{after_route, destination_after};
+ghost use Rattle.packet_parts.specs.FinalDestination.{first_in_list, is_source_route};
 ghost use Rattle.packet_parts.specs.FinalDestination.{last_address, last_compressed, last_in_list};
 ghost use Rattle.packet_parts.specs.FinalDestination.{only_address, segments_left};
 
-use crate::follow::{Side, follow, hides_addresses};
+use crate::covered_addresses::{Side, follow};
 use etherparse::IpNumber;
 use etherparse_net::Ipv4OptionsIterator;
 
@@ -103,7 +103,7 @@ fn after_route(destination: [u8; 4], route: &[u8]) -> [u8; 4]
 /// an extension header is incomplete. The compressed segments of RFC 9800 are not looked into.
 ///
 /// What follows the fragment header of a later fragment is no header: leave it out, as
-/// [`IpSlice::extensions`] does. The answer is `None` if a header should follow by its number.
+/// [`IpSlice::extensions`] does. If it names an extension header, the answer is `None`.
 ///
 /// # Example
 ///
@@ -133,18 +133,16 @@ pub fn final_destination_ipv6(
 }
 
 // The destination after an extension header of a number.
-pub(crate) fn after_header(
+pub(crate) fn destination_after(
     destination: [u8; 16],
     number: IpNumber,
     header: &[u8],
 ) -> Option<[u8; 16]>
     requires enough { 8 ≤ length header.now }
-    ensures value { result ≡ after_header destination number header.now }
+    ensures value { result ≡ destination_after destination number header.now }
 {
     if number == IpNumber::IPV6_ROUTE_HEADER && header[3] != 0 {
         last_address(destination, header)
-    } else if hides_addresses(number, header) {
-        None
     } else {
         Some(destination)
     }

@@ -4,9 +4,9 @@
 
 pub mod address;
 pub mod checksum;
+mod covered_addresses;
 pub mod extensions;
 pub mod final_destination;
-mod follow;
 pub mod fragment;
 pub mod fragment_key;
 pub mod ip_slice;

@@ -1,11 +1,11 @@
 //! The source that the checksums of a packet cover: over IPv6 it can be the home address of a
 //! mobile node.
 
-ghost use Rattle.std.specs.Prelude.{ℕ, ◌≡◌, ◌≤◌, List, Option, length};
+ghost use Rattle.std.specs.Prelude.{ℕ, ◌≡◌, ◌≤◌, List, Option, Some, length};
 ghost use Rattle.packet_parts.specs.OriginalSource.{ComesFromIpv6, HasSourceAfter, LeavesSource};
 ghost use Rattle.packet_parts.specs.OriginalSource.{after_option};
 
-use crate::follow::{Side, follow, hides_addresses};
+use crate::covered_addresses::{Side, follow};
 use etherparse::IpNumber;
 use etherparse_net::Ipv6OptionsIterator;
 
@@ -13,16 +13,16 @@ use etherparse_net::Ipv6OptionsIterator;
 /// header of its IPv6 header and the extension headers after it.
 ///
 /// It is the source of the IPv6 header, unless there is a Home Address option (type 201, RFC 6275
-/// section 6.3) in destination options, wherever these stand: a mobile node that is away from home
-/// sends from its care-of address, and its checksums cover its home address (section 11.3.1). If
-/// there are several of these options, the last one counts. One whose length is not 16, or that is
-/// cut off, is none.
+/// section 6.3) in destination options, wherever these stand. A mobile node that is away from home
+/// and uses route optimization sends from its care-of address, and its checksums cover its home
+/// address (section 11.3.1). If there are several of these options, the last one counts. One that
+/// has other than 16 bytes of data, or is cut off, is none.
 ///
 /// `None` if it is not known: a payload header of Shim6 hides it (RFC 5533 section 5.2), or an
 /// extension header is incomplete.
 ///
 /// What follows the fragment header of a later fragment is no header: leave it out, as
-/// [`IpSlice::extensions`] does. The answer is `None` if a header should follow by its number.
+/// [`IpSlice::extensions`] does. If it names an extension header, the answer is `None`.
 ///
 /// # Example
 ///
@@ -51,16 +51,14 @@ pub fn original_source_ipv6(
 }
 
 // The source after an extension header of a number.
-pub(crate) fn source_after(source: [u8; 16], number: IpNumber, header: &[u8]) -> Option<[u8; 16]>
+pub(crate) fn source_after(source: [u8; 16], number: IpNumber, header: &[u8]) -> [u8; 16]
     requires enough { 8 ≤ length header.now }
-    ensures leaves { LeavesSource source number header.now result }
+    ensures leaves { LeavesSource source number header.now (Some result) }
 {
     if number == IpNumber::IPV6_DESTINATION_OPTIONS {
-        Some(after_options(source, &header[2..]))
-    } else if hides_addresses(number, header) {
-        None
+        after_options(source, &header[2..])
     } else {
-        Some(source)
+        source
     }
 }
 
@@ -76,13 +74,12 @@ fn after_options(source: [u8; 16], options: &[u8]) -> [u8; 16]
                 let next = after_option(last, option.slice);
                 last = next;
             }
-            Some(Err(_)) => return last,
-            None => return last,
+            Some(Err(_)) | None => return last,
         }
     }
 }
 
-// The type of a Home Address option, and its length, in which type and length byte count.
+// The type of a Home Address option, and how many bytes it has with its type and its length.
 const HOME_ADDRESS: u8 = 201;
 
 const HOME_ADDRESS_LEN: usize = 18;

@@ -22,7 +22,7 @@ slot_at slots k = slice_index_or slots k no_slot
 abbrev pub Has : List IpDefragSlot → ℕ → IpFragId → Type 0
 Has slots k id = (k < length slots) × ((slot_at slots k).id ≡ Some id)
 
--- its first fragment came so long ago that it is given up
+-- its first-arriving fragment came so long ago that it is given up
 abbrev pub IsExpired : IpDefragSlot → ℕ → ℕ → Type 0
 IsExpired slot timeout now = slot.since + timeout ≤ now
 

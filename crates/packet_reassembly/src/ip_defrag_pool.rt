@@ -29,7 +29,7 @@ pub struct IpDefragSlot<'a> {
     /// The ECN codepoints of those of its fragments that came by [`IpDefragPool::add_packet`] and were
     /// not refused (RFC 3168 section 5.3).
     pub ecn: FragmentEcn,
-    /// When the first of its fragments that came did so, by the caller's clock.
+    /// When its first-arriving fragment came, by the caller's clock.
     pub since: u64,
     /// The headers of the first fragment of it that came by [`IpDefragPool::add_packet`] and is at
     /// offset 0.
@@ -107,7 +107,7 @@ pub struct Added {
 pub struct IpDefragPool<'a, 'b> {
     /// The slots: at least one.
     pub slots: &'a mut [IpDefragSlot<'b>],
-    /// How long a datagram is kept after the first of its fragments came, in ticks of the caller's
+    /// How long a datagram is kept after its first-arriving fragment, in ticks of the caller's
     /// clock: [`IpDefragPool::TIMEOUT_SECONDS`], if those are seconds.
     pub timeout: u64,
 }
@@ -117,10 +117,10 @@ impl<'a, 'b> IpDefragPool<'a, 'b> {
     /// that RFC 1122 section 3.3.2 recommends.
     pub const TIMEOUT_SECONDS: u64 = 60;
 
-    /// Adds a fragment to its datagram. If no datagram has this id, one begins in a slot: the first
-    /// that none has, or else that of the oldest, the first of those that are equally old. A
-    /// datagram as old as the timeout, or older, is given up when a fragment with its id comes. The
-    /// other slots do not change. The pool has to have at least one slot.
+    /// Adds a fragment to its datagram. If no datagram has this id, one begins in the first free
+    /// slot, or else in that of the oldest datagram, the first of equally old ones. A datagram as
+    /// old as the timeout, or older, is given up when a fragment with its id comes. The other slots
+    /// do not change. The pool has to have at least one slot.
     ///
     /// No headers are kept, and no ECN codepoint counts: if the fragment at offset 0 comes only
     /// this way, [`IpDefragPool::write_packet`] finds no packet.

@@ -12,8 +12,7 @@ use Rattle.packet_parts.proofs.CoveredAddresses.{followed_known}
 use Rattle.packet_parts.proofs.FinalDestinations.{goes_len_ipv6, goes_once_ipv6}
 use Rattle.packet_parts.proofs.OriginalSources.{comes_known_ipv6, comes_len_ipv6, comes_once_ipv6}
 use Rattle.packet_parts.specs.Checksum.{Covers, IsVerdictBetween, IsVerdictIpv6, ipv6_pseudo_header}
-use Rattle.packet_parts.specs.CoveredAddresses.{hides_addresses}
-use Rattle.packet_parts.specs.FinalDestination.{GoesToIpv6, LeavesDestination, after_header, first_in_list, last_address, last_compressed, last_in_list, only_address}
+use Rattle.packet_parts.specs.FinalDestination.{GoesToIpv6, LeavesDestination, destination_after, first_in_list, last_address, last_compressed, last_in_list, only_address}
 use Rattle.packet_parts.specs.IpSlice.{header_bytes}
 use Rattle.packet_parts.specs.OriginalSource.{ComesFromIpv6}
 use Rattle.packet_parts.specs.declared.checksum.Verdict.TheVariants.{Right}
@@ -144,7 +143,7 @@ header_put {after = after} {rest = rest} {put = put} begins is written =
     subst (λ h. BeginsWith IsIpv6Layout after h rest) is
     (subst (BeginsWith IsIpv6Layout after put) (ap (drop 40) begins.whole ∙ drop_at begins.front rest 40 begins.layout.len) written)
 
--- whether the final destination is known does not depend on the destination
+-- if one address is known, so is the other
 abbrev SameKnown : Option (List ℕ) → Option (List ℕ) → Type 0
 SameKnown a b = (x : List ℕ) → a ≡ Some x → b ≡ None → ⊥
 
@@ -158,13 +157,14 @@ itself_known a x is none = cc
 some_known : (a b : List ℕ) → SameKnown (Some a) (Some b)
 some_known a b x is none = cc
 
-after_known : (d e : List ℕ) (n : ℕ) (h : List ℕ) → SameKnown (after_header d n h) (after_header e n h)
+after_known : (d e : List ℕ) (n : ℕ) (h : List ℕ) → SameKnown (destination_after d n h) (destination_after e n h)
 after_known d e n h = either_known _ (last_address d h) _ (last_address e h) _
     (either_known _ (last_in_list h) _ (last_in_list h) _ (itself_known (last_in_list h)) (either_known _ (only_address h) _ (only_address h) _ (itself_known (only_address h))
     (either_known _ (last_compressed d h) _ (last_compressed e h) _ (either_known _ (Some _) None (Some _) None (some_known _ _) (itself_known None))
     (itself_known (if slice_index h 2 == 4 then first_in_list h else None)))))
-    (either_known (hides_addresses n h) None (Some d) None (Some e) (itself_known None) (some_known d e))
+    (some_known d e)
 
+-- if the final destination is known, so is that from another destination
 goes_known : (d e : List ℕ) (n : ℕ) (s a : List ℕ) → GoesToIpv6 d n s (Some a) → GoesToIpv6 e n s None → ⊥
 goes_known = followed_known LeavesDestination (λ d e n h x p q. after_known d e n h x (sym p) (sym q))
 

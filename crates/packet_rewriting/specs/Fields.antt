@@ -234,16 +234,16 @@ abbrev pub UpdatesForDestinationIpv6 : List ℕ → IpSlice → Ipv6Header → R
 UpdatesForDestinationIpv6 destination slice header reach payload =
     UpdatesForIpv6 GoesToIpv6 header.destination destination slice header reach payload
 
--- if a payload was right between the original source and the final destination of a header, another
--- one is right between those of the next header, before the same extension headers
+-- if a payload was right between the covered addresses of the old header, another one is right
+-- between those of the new header, with the same extension headers
 abbrev pub KeepsRightIpv6 : IpSlice → Ipv6Header → Ipv6Header → List ℕ → Type 0
-KeepsRightIpv6 slice header next payload = (source final next_source next_final : Option (List ℕ))
-    → ComesFromIpv6 header.source header.next_header slice.extensions.now source
-    → GoesToIpv6 header.destination header.next_header slice.extensions.now final
-    → ComesFromIpv6 next.source next.next_header slice.extensions.now next_source
-    → GoesToIpv6 next.destination next.next_header slice.extensions.now next_final
-    → IsVerdictBetween source final slice.upper slice.payload.now Right
-    → IsVerdictBetween next_source next_final slice.upper payload Right
+KeepsRightIpv6 slice old new payload = (old_source old_final new_source new_final : Option (List ℕ))
+    → ComesFromIpv6 old.source old.next_header slice.extensions.now old_source
+    → GoesToIpv6 old.destination old.next_header slice.extensions.now old_final
+    → ComesFromIpv6 new.source new.next_header slice.extensions.now new_source
+    → GoesToIpv6 new.destination new.next_header slice.extensions.now new_final
+    → IsVerdictBetween old_source old_final slice.upper slice.payload.now Right
+    → IsVerdictBetween new_source new_final slice.upper payload Right
 
 -- An IPv6 packet has another address in place of the old one, and the checksum of its upper layer
 -- is updated for it. Its extension headers and what the link added after it stay.

@@ -1,7 +1,8 @@
 //! Fields of a whole IP packet, changed where they stand: addresses, ports, DSCP and ECN. The
-//! checksums of the IPv4 header, UDP, TCP and ICMPv6 that cover a field are updated for it (RFC 1624
-//! section 3), so that a right one stays right, and a wrong one is not repaired. Those of other
-//! protocols, and of a mobility or host identity header (135, 139), are left as they are.
+//! checksums of the IPv4 header, UDP, TCP and ICMPv6 that cover a field are updated for it (RFC
+//! 1624 section 3), so that a right one stays right, and a wrong one is not repaired. Those of other
+//! upper layers, of mobility headers (135) and of the Host Identity Protocol (139) stay as they are,
+//! and can become wrong.
 
 ghost use Rattle.std.specs.Prelude.{◌≡◌, ◌+◌, ◌*◌, ◌/◌, ◌%◌, ◌^◌, ◌<◌, ◌≤◌, [], ◌∷◌, drop};
 ghost use Rattle.std.specs.Prelude.{length};
@@ -87,7 +88,8 @@ impl fmt::Display for RewriteError {
 #[derive(Clone, Copy, Debug, PartialEq, Eq)]
 pub enum Reach {
     /// Into the header of UDP, TCP or, over IPv6, ICMPv6, whose checksum is updated too, but where
-    /// [`set_destination_ipv4`], [`set_source_ipv6`] or [`set_destination_ipv6`] says that it stays.
+    /// [`set_destination_ipv4`], [`set_source_ipv6`] or [`set_destination_ipv6`] says that it
+    /// stays.
     Upper,
     /// It ends with the IP header: the payload is a later fragment. No checksum in it is updated:
     /// the one that covers the address is in the first fragment, but that of TCP over IPv4 in a
@@ -417,7 +419,7 @@ fn ipv6_parts(packet: &[u8]) -> Result<(Ipv6Header, Cut), RewriteError>
     }
 }
 
-// The original source of a packet with a header, after whose 40 bytes there are extension headers.
+// The original source of a packet with a header; `front` is its 40 bytes and extension headers.
 fn original_in(header: &Ipv6Header, front: &[u8]) -> Option<[u8; 16]>
     requires enough { 40 ≤ length front.now }
     ensures comes_from { ComesFromIpv6 header.now.source header.now.next_header (drop 40 front.now)

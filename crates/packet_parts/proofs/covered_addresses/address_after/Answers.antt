@@ -1,4 +1,4 @@
-use Rattle.packet_parts.proofs.follow.left_of.Goals as goal
+use Rattle.packet_parts.proofs.covered_addresses.address_after.Goals as goal
 
 pub returns-in-Source : goal.returns-in-Source
 returns-in-Source c = record { leaves = rw c.in-Source.is c.source_after.ensures.leaves }

@@ -4,7 +4,7 @@ ghost use Rattle.std.specs.Prelude.{◌≡◌, ◌≤◌, length};
 ghost use Rattle.packet_parts.specs.CoveredAddresses.{FollowsIpv6, hides_addresses};
 ghost use Rattle.packet_parts.specs.Sides.{LeavesAt};
 
-use crate::final_destination::after_header;
+use crate::final_destination::destination_after;
 use crate::original_source::source_after;
 use etherparse::{IpNumber, Ipv6Header};
 
@@ -35,7 +35,11 @@ pub(crate) fn follow(
             Ok(skipped) => skipped,
             Err(_) => return None,
         };
-        match left_of(side, last, number, &rest[..rest.len() - after.len()]) {
+        let header = &rest[..rest.len() - after.len()];
+        if hides_addresses(number, header) {
+            return None;
+        }
+        match address_after(side, last, number, header) {
             Some(next) => last = next,
             None => return None,
         }
@@ -45,18 +49,18 @@ pub(crate) fn follow(
 }
 
 // The address after an extension header of a number.
-fn left_of(side: Side, address: [u8; 16], number: IpNumber, header: &[u8]) -> Option<[u8; 16]>
+fn address_after(side: Side, address: [u8; 16], number: IpNumber, header: &[u8]) -> Option<[u8; 16]>
     requires enough { 8 ≤ length header.now }
     ensures leaves { LeavesAt side address number header.now result }
 {
     match side {
-        Side::Source => source_after(address, number, header),
-        Side::Destination => after_header(address, number, header),
+        Side::Source => Some(source_after(address, number, header)),
+        Side::Destination => destination_after(address, number, header),
     }
 }
 
 // Whether an extension header of a number is a payload header of Shim6.
-pub(crate) fn hides_addresses(number: IpNumber, header: &[u8]) -> bool
+fn hides_addresses(number: IpNumber, header: &[u8]) -> bool
     requires enough { 8 ≤ length header.now }
     ensures value { result ≡ hides_addresses number header.now }
 {
