@@ -359,7 +359,7 @@ fn refusals_have_their_texts() {
         ))
     };
     let cases: [(Vec<u8>, SliceError, &str); 13] = [
-        (vec![0; 9], short.into(), "Link Header Error: The header has 14 bytes, the frame 9."),
+        (vec![0; 9], short.into(), "Link Header Error: The header has at least 14 bytes, the frame 9."),
         (
             ethernet("81000005"),
             len_error(Layer::VlanHeader, 4, 2, 14).into(),

@@ -225,7 +225,7 @@ fn put_link_len(error: &Error, text: &mut [u8]) -> usize
     let (mut required_len, mut len) = (Buffer::new(), Buffer::new());
     put(
         &[
-            "Link Header Error: The header has ",
+            "Link Header Error: The header has at least ",
             digits(error.required_len, &mut required_len),
             " bytes, the frame ",
             digits(error.len, &mut len),

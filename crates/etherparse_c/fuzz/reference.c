@@ -90,7 +90,7 @@ size_t reference_text(const struct etherparse_error *error, char text[ETHERPARSE
     int len = 0;
     text[0] = '\0';
     if (error->kind == ETHERPARSE_LEN && error->layer == ETHERPARSE_LINK_HEADER && error->len < error->required_len)
-        len = snprintf(text, ETHERPARSE_ERROR_TEXT_SIZE, "Link Header Error: The header has %zu bytes, the frame %zu.",
+        len = snprintf(text, ETHERPARSE_ERROR_TEXT_SIZE, "Link Header Error: The header has at least %zu bytes, the frame %zu.",
             error->required_len, error->len);
     if (error->kind == ETHERPARSE_LEN && error->number <= 2 && error->len < error->required_len) {
         const char *source = sources[error->number];

@@ -242,7 +242,7 @@ fn assert_carries_datagram(rt: &impl Abort, frame: &SlicedPacket, ether_type: Op
 
 #[test]
 fn errors_have_texts(rt: HostRuntime) {
-    let text = "Link Header Error: The header has 14 bytes, the frame 13.";
+    let text = "Link Header Error: The header has at least 14 bytes, the frame 13.";
     assert_refused(
         &rt,
         rt.alloc(),

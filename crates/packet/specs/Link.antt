@@ -108,5 +108,5 @@ pub record LacksLink (link_type : LinkType) (frame : List ℕ) (e : LinkError) :
 
 -- the text of such an error
 abbrev pub link_error_text : LinkError → List ℕ
-link_error_text e = codes "Link Header Error: The header has " ++ (decimal e.required_len
+link_error_text e = codes "Link Header Error: The header has at least " ++ (decimal e.required_len
     ++ (codes " bytes, the frame " ++ (decimal e.len ++ codes ".")))

@@ -78,7 +78,7 @@ impl fmt::Display for LinkError {
         let (required_len, len) = (self.required_len, self.len);
         write!(
             f,
-            "Link Header Error: The header has {required_len} bytes, the frame {len}."
+            "Link Header Error: The header has at least {required_len} bytes, the frame {len}."
         )
     }
 }

@@ -26,12 +26,13 @@ pub struct SlicedPacket<'a> {
     /// All bytes after the link header and the tags: an IP packet and what comes after it, as
     /// Ethernet's padding, or another protocol.
     pub payload: &'a [u8],
-    /// The IP packet; `None` if `payload` is another protocol, or in a `LaxSlicedPacket` if it has
-    /// no IP header, or one whose total length is below the header's, but not 0.
+    /// The IP packet; `None` if `payload` is another protocol, or in a `LaxSlicedPacket` if the
+    /// frame ends within a tag, or `payload` has no IP header, or one whose total length is below
+    /// the header's, but not 0.
     pub net: Option<IpSlice<'a>>,
     /// The transport header; `None` without an IP packet, if the number of its payload is of none
-    /// that is read, if that payload is of a later fragment, or if a first fragment does not have
-    /// all of it or has a data offset of TCP below 5.
+    /// that is read, if that payload is of a later fragment, or if a first fragment, or in a
+    /// `LaxSlicedPacket` any packet, does not have all of it or has a data offset of TCP below 5.
     pub transport: Option<TransportSlice<'a>>,
 }
 
