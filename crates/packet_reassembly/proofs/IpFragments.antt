@@ -130,14 +130,15 @@ one_ecn a b same = search rules
 pub fragment_once : (s : List ℕ) (f g : IpFragmentSlice) → HasIpFragment s f → HasIpFragment s g → fragment_fields f ≡ fragment_fields g
 fragment_once s f g (inl p) (inl q) =
     let same = same_cut_beginning IsIpv4Layout RefusesIpv4 tells_ipv4 ipv4_bytes ipv4_front s p.header q.header f.payload.now g.payload.now p.begins q.begins in
-    cc (headers_4 s f p, headers_4 s g q)
+    cc (headers_4 s f p, headers_4 s g q, p.last_extension, q.last_extension)
 fragment_once s f g (inl p) (inr q) = absurd (one_version s p.header q.header _ _ (front_4 s p.header f.payload.now p.begins) (front_6 s q.header q.body q.begins))
 fragment_once s f g (inr p) (inl q) = absurd (one_version s q.header p.header _ _ (front_4 s q.header g.payload.now q.begins) (front_6 s p.header p.body p.begins))
 fragment_once s f g (inr p) (inr q) =
     let same = same_cut_beginning IsIpv6Layout RefusesIpv6 tells_ipv6 ipv6_bytes ipv6_front s p.header q.header p.body q.body p.begins q.begins in
     let parts = parts_once p.parts q.parts (rw (same.0, same.1) at p.are_parts) q.are_parts in
     let ecn : ecn_value f.ecn ≡ ecn_value g.ecn = rw same.0 at p.ecn ∙ sym q.ecn in
-    cc (headers_6 s f p, headers_6 s g q, one_ecn f.ecn g.ecn ecn)
+    let last : f.last_extension ≡ g.last_extension = p.last_extension ∙ ap (λ n. 40 + n) parts.2 ∙ sym q.last_extension in
+    cc (headers_6 s f p, headers_6 s g q, one_ecn f.ecn g.ecn ecn, last)
 
 -- it is refused for one reason
 pub fragment_refused_once : (s : List ℕ) (e f : IpSliceError) → RefusesIpFragment s e → RefusesIpFragment s f → e ≡ f

@@ -1,5 +1,5 @@
 -- extension headers, one after the other, up to the one place where a fragment header decides or there is none
-use Rattle.std.proofs.Common.{ℕ, ◌≡◌, ◌+◌, ◌-◌, ◌<◌, ◌≤◌, ◌++◌, [], ◌∷◌, IsTrue, List, None, Option, length, arith, ap, append_assoc, drop, false, get_or, length-append, length-drop, refl, rules, slice_index, slice_range, subst, sym, take, ◌∙◌}
+use Rattle.std.proofs.Common.{ℕ, ◌≡◌, ◌+◌, ◌-◌, ◌<◌, ◌≤◌, ◌++◌, [], ◌∷◌, IsTrue, List, None, Option, length, arith, ap, append_assoc, drop, drop_at, false, get_or, length-append, length-drop, refl, rules, slice_index, slice_range, subst, sym, take, take_at, ◌∙◌}
 use Rattle.std.specs.Option.{option_or}
 use Rattle.std.proofs.Math.ListN.{get_or-append}
 use Rattle.std.proofs.Math.Seq.{drop-append_seam, take-add}
@@ -8,6 +8,7 @@ use Rattle.std.proofs.lemmas.Grind.{common_steps}
 use Rattle.std.proofs.lemmas.List.Folds.{concat-append}
 use Rattle.std.specs.List.{concat}
 use Rattle.std.proofs.lemmas.List.{append-nil, drop-drop, get_or-take, length-take-le}
+use Rattle.etherparse.proofs.ExtensionHeaderChain.{whole_in_front}
 use Rattle.etherparse.proofs.Fronts.{TellsHeaders, fixed_tells}
 use Rattle.etherparse.specs.ExtensionHeaderChain.{FollowsChain, IsExtensionHeader, IsExtensionHeaderChain, extension_header_len, required_len_of}
 use Rattle.etherparse.specs.ExtensionHeaders.{IsSkippable}
@@ -125,16 +126,63 @@ one_stop there (passed pass more) stuck other = absurd (stuck pass)
 one_stop (passed pass more) there stuck other = absurd (other pass)
 one_stop (passed pass more) (passed again rest) stuck other = one_stop more rest stuck other
 
+-- a header that is all of some bytes is not the first of several
+last_alone : (first n m : ℕ) (x others l k : List ℕ) → n ≡ first → IsExtensionHeader n l → IsExtensionHeader first x → IsExtensionHeader m k → l ≡ (x ++ others) ++ k → ⊥
+last_alone first n m x others l k is h d g same =
+    let one = whole_in_front first l [] (subst (λ i. IsExtensionHeader i l) is h) in
+    let two = whole_in_front first x (others ++ k) d in
+    let last = whole_in_front m k [] g in
+    let whole : l ++ [] ≡ x ++ (others ++ k) = append-nil l ∙ same ∙ append_assoc x others k in
+    let len : length l ≡ length x = one.1 ∙ ap (required_len_of first) whole ∙ sym two.1 in
+    omega (arith, len, last.0, ap length same, length-append (x ++ others) k, length-append x others)
+
+-- headers and the last one after them are split in one place
+others_once : (first n m : ℕ) (hs ks : List (List ℕ)) (l k : List ℕ) → IsExtensionHeaderChain first hs n → IsExtensionHeader n l
+    → IsExtensionHeaderChain first ks m → IsExtensionHeader m k → concat hs ++ l ≡ concat ks ++ k → concat hs ≡ concat ks
+others_once first n m [] [] l k c h d g same = refl
+others_once first n m [] (x ∷ ks) l k c h d g same = absurd (last_alone first n m x (concat ks) l k c h d.0 g same)
+others_once first n m (x ∷ hs) [] l k c h d g same = absurd (last_alone first m n x (concat hs) k l d g c.0 h (sym same))
+others_once first n m (x ∷ hs) (y ∷ ks) l k c h d g same =
+    let one = whole_in_front first x (concat hs ++ l) c.0 in
+    let two = whole_in_front first y (concat ks ++ k) d.0 in
+    let whole : x ++ (concat hs ++ l) ≡ y ++ (concat ks ++ k) = sym (append_assoc x (concat hs) l) ∙ same ∙ append_assoc y (concat ks) k in
+    let len : length x ≡ length y = one.1 ∙ ap (required_len_of first) whole ∙ sym two.1 in
+    let front : x ≡ y = sym (take_at x (concat hs ++ l) (length x) refl) ∙ ap (take (length x)) whole ∙ take_at y (concat ks ++ k) (length x) (sym len) in
+    let rest : concat hs ++ l ≡ concat ks ++ k = sym (drop_at x (concat hs ++ l) (length x) refl) ∙ ap (drop (length x)) whole ∙ drop_at y (concat ks ++ k) (length x) (sym len) in
+    let next : IsExtensionHeaderChain (slice_index x 0) ks m = subst (λ z. IsExtensionHeaderChain (slice_index z 0) ks m) (sym front) d.1 in
+    let more = others_once (slice_index x 0) n m hs ks l k c.1 h next g rest in
+    rw (front, more) refl
+
+-- the headers before the last one are the same bytes
+before_once : (first : ℕ) (b l c m : List ℕ) → b ++ l ≡ c ++ m → AreUnfragmentable first b l → AreUnfragmentable first c m → b ≡ c
+before_once first b [] c [] same p q = p ∙ sym q
+before_once first b [] c (y ∷ m) same p q = absurd (omega (arith, ap length same, ap length p, length-append b [], length-append c (y ∷ m)))
+before_once first b (x ∷ l) c [] same p q = absurd (omega (arith, ap length same, ap length q, length-append c [], length-append b (x ∷ l)))
+before_once first b (x ∷ l) c (y ∷ m) same (n, p, h) (k, q, g) =
+    let is = p.begins.whole ∙ append-nil (concat p.headers) in
+    let other = q.begins.whole ∙ append-nil (concat q.headers) in
+    let split : concat p.headers ++ x ∷ l ≡ concat q.headers ++ y ∷ m = ap (λ z. z ++ x ∷ l) (sym is) ∙ same ∙ ap (λ z. z ++ y ∷ m) other in
+    is ∙ others_once first n k p.headers q.headers (x ∷ l) (y ∷ m) p.begins.chain h q.begins.chain g split ∙ sym other
+
+-- what is before a place is the same of both
+same_before : (body a b at to : List ℕ) → at ≡ to → body ≡ a ++ at → body ≡ b ++ to → a ≡ b
+same_before body a b at to here p q =
+    let len : length b ≡ length a = omega (arith, ap length p, ap length q, ap length here, length-append a at, length-append b to) in
+    sym (take_at a at (length a) refl) ∙ ap (take (length a)) (sym p ∙ q) ∙ take_at b to (length a) len
+
 module _ {body : List ℕ} {first : ℕ} where
   -- it stops before a header that decides
   stuck : {a : Ipv6FragmentParts} (p : AreFragmentParts body first a) → CanPass 44 p.at → ⊥
   stuck {a = a} p pass = let part : IsTrue false = subst IsTrue (pass.undecided a.fragment a.payload.now refl p.begins) p.is_part in cc
 
-  -- the fragment header that decides is one, and so is what follows it
-  pub parts_once : (a b : Ipv6FragmentParts) → AreFragmentParts body first a → AreFragmentParts body first b → (a.fragment ≡ b.fragment) × (a.payload.now ≡ b.payload.now)
+  -- the fragment header that decides is one, and so is what follows it, and where the last header before it begins
+  pub parts_once : (a b : Ipv6FragmentParts) → AreFragmentParts body first a → AreFragmentParts body first b
+      → (a.fragment ≡ b.fragment) × (a.payload.now ≡ b.payload.now) × (length a.before.now ≡ length b.before.now)
   parts_once a b p q =
       let same = one_stop (leads p.passes refl) (leads q.passes refl) (stuck p) (stuck q) in
-      one_fragment q.at a.fragment b.fragment a.payload.now b.payload.now (rw same.1 at p.begins) q.begins
+      let fragment = one_fragment q.at a.fragment b.fragment a.payload.now b.payload.now (rw same.1 at p.begins) q.begins in
+      let headers = same_before body (a.before.now ++ a.last.now) (b.before.now ++ b.last.now) p.at q.at same.1 (p.whole ∙ simp (append_assoc)) (q.whole ∙ simp (append_assoc)) in
+      (fragment.0, fragment.1, ap length (before_once first a.before.now a.last.now b.before.now b.last.now headers p.headers q.headers))
 
   -- there is none where it stops before another header
   pub parts_not_at : (a : Ipv6FragmentParts) (n : ℕ) (r : List ℕ) → AreFragmentParts body first a → Passes body first None n r → (IsSkippable n → required_len_of n r ≤ length r → ⊥) → ⊥

@@ -113,6 +113,7 @@ pub record IpFragmentFields : Type 0 where
   pub next_header : ℕ
   pub ecn : IpEcn
   pub headers : List ℕ
+  pub last_extension : ℕ
   pub payload : List ℕ
 
 abbrev pub fragment_fields : IpFragmentSlice → IpFragmentFields
@@ -123,6 +124,7 @@ fragment_fields f = record {
   next_header = f.next_header;
   ecn = f.ecn;
   headers = f.headers.now;
+  last_extension = f.last_extension;
   payload = f.payload.now;
 }
 
