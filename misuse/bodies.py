@@ -227,10 +227,10 @@ def why_failed(group, whole, kept):
         own = not_proved & set(read(body)[0])
         said = [line for it in own for line in told(crate, it, lines, crate != [*group][-1])]
         said += [line for line in lines if LEMMA.match(line) and is_alone]
-        if ran.returncode == 0 or ran.returncode == 1 and not own:
-            found[body] = 'it is proved'
-        elif ran.returncode != 1 or not_proved - functions[crate] or any(re.search(r'\berror\[', line) for line in lines):
+        if ran.returncode not in (0, 1) or not_proved - functions[crate] or any(re.search(r'\berror\[', line) for line in lines):
             found[body] = 'no verdict: ' + ' | '.join([*sorted(not_proved - functions[crate]), *lines[-4:]])
+        elif ran.returncode == 0 or not own:
+            found[body] = 'it is proved'
         elif all(NAMES.match(line) for line in said):
             found[body] = f'no contract refuses it, but a proof that names what it took away: {(said or ["nothing is told"])[0]}'
         else:

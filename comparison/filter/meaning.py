@@ -45,6 +45,8 @@ class Ip:
     upper: int
     payload: bytes
     fragment: bool
+    # the offset of the fragment, in units of 8 bytes
+    offset: int
     later: bool
     # all that the length field says is there, and no extension header is cut
     complete: bool
@@ -78,7 +80,7 @@ def read_ipv4(data):
     flags = number_at(data, 6)
     offset, more = flags % 2**13, flags // 2**13 % 2
     return Ip(4, number_at(data, 12, 4), number_at(data, 16, 4), whole, data[:header_length],
-              data[9], whole[header_length:], bool(more or offset), offset > 0,
+              data[9], whole[header_length:], bool(more or offset), offset, offset > 0,
               0 < total <= len(data))
 
 
@@ -88,7 +90,7 @@ def read_ipv6(data):
     told = 40 + number_at(data, 4)
     whole = data[:told]
     number, rest = data[6], whole[40:]
-    chain, fragment, later, complete = [], False, False, told <= len(data)
+    chain, fragment, offset, later, complete = [], False, 0, False, told <= len(data)
     while number in EXTENSIONS and not later:
         if number == 44:
             length = 8
@@ -101,12 +103,14 @@ def read_ipv6(data):
             break
         if number == 44:
             place = number_at(rest, 2)
-            fragment = fragment or place // 8 > 0 or place % 2 == 1
+            # the first header that is not atomic decides
+            if not fragment and (place // 8 > 0 or place % 2 == 1):
+                fragment, offset = True, place // 8
             later = place // 8 > 0
         chain.append(number)
         number, rest = rest[0], rest[length:]
     return Ip(6, number_at(data, 8, 16), number_at(data, 24, 16), whole, data[:40], number, rest,
-              fragment, later, complete, chain)
+              fragment, offset, later, complete, chain)
 
 
 def read_frame(data, link_type=1):
@@ -287,7 +291,7 @@ PRIMITIVES = {
     and frame.ip.destination >> 120 == 0xff,
     'fragment': lambda frame, wire: frame.ip is not None and frame.ip.fragment,
     'first-fragment': lambda frame, wire: frame.ip is not None and frame.ip.fragment
-    and not frame.ip.later,
+    and frame.ip.offset == 0,
     'checksum-wrong': lambda frame, wire: checksum_is_wrong(frame.ip),
     'less': lambda frame, wire, limit: wire <= limit,
     'greater': lambda frame, wire, limit: wire >= limit,

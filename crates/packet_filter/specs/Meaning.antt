@@ -281,7 +281,7 @@ Holds (primitive.Compare quantity mask r limit) lax len = (number : ℕ)
     × Tells quantity lax.packet len number × Compares r (masked mask number) limit
 Holds primitive.Fragment lax len = IsSomeAnd lax.packet.net (λ ip. IsSome ip.fragment)
 Holds primitive.FirstFragment lax len =
-    IsSomeAnd lax.packet.net (λ ip. IsSome ip.fragment × IsFalse ip.is_later_fragment)
+    IsSomeAnd lax.packet.net (λ ip. IsSomeAnd ip.fragment (λ fragment. fragment.offset ≡ 0))
 Holds primitive.WrongChecksum lax len = HasWrongChecksum lax
 
 -- an expression, without its parentheses

@@ -131,7 +131,7 @@ pub(crate) enum Primitive {
     Compare(Quantity, Option<u32>, Relation, u32),
     /// It is a fragment.
     Fragment,
-    /// It is the first fragment of an IP packet.
+    /// It is a fragment with the offset 0.
     FirstFragment,
     /// The checksum of its IPv4 header is wrong, or that of UDP, TCP, ICMP or ICMPv6.
     WrongChecksum,

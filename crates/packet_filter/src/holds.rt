@@ -19,6 +19,7 @@ use packet::link::LinkSlice;
 use packet::sliced_packet::SlicedPacket;
 use packet::vlan::VlanSlice;
 use packet_parts::checksum::Verdict;
+use packet_parts::fragment::Fragment;
 use packet_parts::ip_slice::{IpHeaderSlice, IpSlice};
 
 impl Primitive {
@@ -54,7 +55,7 @@ impl Primitive {
                 None => false,
             },
             Primitive::FirstFragment => match &packet.net {
-                Some(ip) => ip.fragment.is_some() && !ip.is_later_fragment,
+                Some(ip) => matches!(ip.fragment, Some(Fragment { offset: 0, .. })),
                 None => false,
             },
             Primitive::WrongChecksum => has_wrong_checksum(lax),
