@@ -185,19 +185,38 @@ help_and_version() {
     for word in -h --help; do
         run "$word" tcp
         code=$?
-        for line in "Usage: $build [OPTIONS] [FILE] [EXPRESSION]..." '  -r <FILE>' '  -w <FILE>' \
-            '  -c <N>' '      --count' '      --quiet' '  -n' '      --utc' '      --reassemble' '  -h, --help' '  -V, --version' \
-            '  [FILE]           Read FILE' '  [EXPRESSION]...  List' 'Link types: ' 'A line has these words:' \
-            '  ipcap trace.pcap ' '`checksum wrong`'; do
+        for line in "Usage: $build [OPTIONS] [FILE] [EXPRESSION]..." '  -r <FILE>         Read FILE' \
+            '  -w <FILE>         Write the packets to FILE' '  -c <N>            Stop once N packets' \
+            '      --count       Print how many packets match' '      --quiet       Print the counts' \
+            '  -n...             Changes nothing' '      --utc         Print times as dates' \
+            '      --reassemble  Put fragmented packets together' '  -h, --help        Print help' \
+            '  -V, --version     Print version' '  [FILE]           Read FILE' '  [EXPRESSION]...  List' \
+            'Link types: ' 'A line has these words:' '  ipcap trace.pcap ' '`checksum wrong`'; do
             if ! grep -q -F -e "$line" "$room/output"; then
                 fail "$word" "it does not say '$line'"
             else
                 pass
             fi
         done
+        if [ "$(grep -c '^Usage: ' "$room/output")" -ne 1 ]; then
+            fail "$word" 'it does not say it once'
+        else
+            pass
+        fi
         cp "$room/output" "$room/wanted"
         judge "$word" "$code" 0
     done
+    : >"$room/output"
+    : >"$room/wanted"
+    echo 'error: No space left on device (os error 28)' >"$room/wanted.errors"
+    for word in --help --version; do
+        "$program" "$word" >/dev/full 2>"$room/errors"
+        judge "standard output full, with '$word'" $? 3
+    done
+    : >"$room/errors"
+    : >"$room/wanted.errors"
+    "$program" --no-such-option >"$room/output" 2>/dev/full
+    judge 'standard error full, with no such option' $? 3
 }
 
 # A file that is named, by -r or by the first word that is no option; and one that cannot be opened.
@@ -1455,6 +1474,19 @@ datagrams() {
     echo "$(closing "$1" "$2" "$3" 0 "$4" 0); datagrams: $5 reassembled, $6 discarded, $7 incomplete"
 }
 
+# timed SECONDS PLACE: one of the fragments as a packet of the first interface, with this time.
+timed() {
+    local length=$((${#fragments[$2]} / 2))
+    {
+        number 0
+        ticks $(($1 * 1000000))
+        number $length
+        number $length
+        in_hex "${fragments[$2]}"
+    } >"$room/body"
+    block 6
+}
+
 # first_fragments COUNT: the fronts of so many other datagrams, a second later.
 first_fragments() {
     local k
@@ -1552,6 +1584,9 @@ reassembled() {
     cp stdin "$room/input"
     run --reassemble
     judge 'no fragments to put together' $? 0
+    sed 's/ 170000000\([0-9]\)\.\([0-9]*\)/ 2023-11-14T22:13:2\1.\2Z/' stdout >"$room/wanted"
+    run --reassemble --utc
+    judge 'no fragments to put together, with dates' $? 0
     : >"$room/wanted.errors"
     fragmented 59 >"$room/input"
     datagrams 11 9 2 0 4 1 0 >"$room/wanted"
@@ -1600,6 +1635,17 @@ reassembled() {
     datagrams 2 2 0 0 0 0 1 | sed 's/0 cut/1 cut/' >"$room/wanted"
     run --reassemble --quiet
     judge 'a fragment that the capture cut' $? 0
+    for apart in 60 59; do
+        {
+            section
+            interface 1 '\16\0\10\0\234\377\377\377\377\377\377\377'
+            timed 50 7
+            timed $((50 + apart)) 10
+        } >"$room/input"
+        datagrams 2 2 0 0 $((60 - apart)) 0 $((2 * (apart - 59))) >"$room/wanted"
+        run --reassemble --quiet
+        judge "fragments before and after the start of 1970, $apart seconds apart" $? 0
+    done
 }
 
 # The command lines of README.md, with what they print: standard output, and then standard error.

@@ -1,26 +1,40 @@
 -- A line on what failed.
-use Rattle.std.proofs.Common.{ℕ, List, ◌++◌, Option, Some, None, [], Result, Ok, Err, OnErr, OnOk, inl, inr, ap, codes, refl, ◌∙◌}
+use Rattle.std.proofs.Common.{ℕ, List, ◌++◌, Option, Some, None, [], Result, Ok, Err, IfSome, OnErr, OnOk, append-nil, inl, inr, ap, refl, sym, ◌∙◌}
 use Rattle.std.specs.Io.KnownBytes.{Appends, Keeps}
 use Rattle.std.specs.declared.io.Error.{Error}
-use Rattle.ipcap.specs.Faults.{IsReason, Says, fault_line, reason_text}
+use Rattle.ipcap.specs.Faults.{IsReason, Says, fault_line}
 use Rattle.ipcap.specs.Streams.{Prints, PrintsFront, Reports}
 use Rattle.ipcap.specs.declared.output.Output.{Output}
 use Rattle.ipcap.proofs.Runs.{front_then, prints_both, prints_then}
 
-module _ {W : Type 0} (contents : W → Option (List ℕ)) (a b c d : Output W) (what : List ℕ) (begun : Prints contents a b (codes "error: ")) where
-  -- a line on what failed is begun
-  pub fault_begun : (text : List ℕ) → Prints contents b c [] → PrintsFront contents a c (codes "error: " ++ text)
-  fault_begun text kept = record { front = codes "error: "; rest = text; whole = refl; prints = prints_then contents a b c (codes "error: ") begun kept }
+module _ {W : Type 0} (contents : W → Option (List ℕ)) (a b c d : Output W) (first second : List ℕ) (begun : Prints contents a b first) where
+  -- a line is begun
+  pub fault_begun : (text : List ℕ) → Prints contents b c [] → PrintsFront contents a c (first ++ text)
+  fault_begun text kept = record { front = first; rest = text; whole = refl; prints = prints_then contents a b c first begun kept }
 
-  -- it is printed
-  pub fault_printed : {T E : Type 0} (r : Result T E) (reason : Option (List ℕ)) → Prints contents b c what → OnOk r (Prints contents c d (reason_text reason)) → OnOk r (Prints contents a d (fault_line what reason))
-  fault_printed (Ok x) reason p q = prints_both contents a b d (codes "error: ") (what ++ reason_text reason) begun (prints_both contents b c d what (reason_text reason) p q)
-  fault_printed (Err e) reason p q = tt
+  -- two pieces of it are printed, and the rest
+  pub fault_printed : {T E : Type 0} (r : Result T E) (rest : List ℕ) → Prints contents b c second → OnOk r (Prints contents c d rest) → OnOk r (Prints contents a d (first ++ (second ++ rest)))
+  fault_printed (Ok x) rest p q = prints_both contents a b d first (second ++ rest) begun (prints_both contents b c d second rest p q)
+  fault_printed (Err e) rest p q = tt
 
-  -- or a front of it
-  pub front_printed : {T E : Type 0} (r : Result T E) (reason : Option (List ℕ)) → Prints contents b c what → OnErr r (PrintsFront contents c d (reason_text reason)) → OnErr r (PrintsFront contents a d (fault_line what reason))
-  front_printed (Ok x) reason p q = tt
-  front_printed (Err e) reason p q = front_then contents a b d (codes "error: ") (what ++ reason_text reason) begun (front_then contents b c d what (reason_text reason) p q)
+  -- or a front of that
+  pub front_printed : {T E : Type 0} (r : Result T E) (rest : List ℕ) → Prints contents b c second → OnErr r (PrintsFront contents c d rest) → OnErr r (PrintsFront contents a d (first ++ (second ++ rest)))
+  front_printed (Ok x) rest p q = tt
+  front_printed (Err e) rest p q = front_then contents a b d first (second ++ rest) begun (front_then contents b c d second rest p q)
+
+-- a text that is printed before all is handed over
+module _ {W : Type 0} (contents : W → Option (List ℕ)) where
+  pub nothing_printed : (a b : Output W) (text : Option (List ℕ)) → Prints contents a b [] → IfSome text (PrintsFront contents a b)
+  nothing_printed a b None p = tt
+  nothing_printed a b (Some text) p = record { front = []; rest = text; whole = refl; prints = p }
+
+  pub all_handed_over : (a b c : Output W) (text : Option (List ℕ)) → IfSome text (Prints contents a b) → Prints contents b c [] → IfSome text (Prints contents a c)
+  all_handed_over a b c None p q = tt
+  all_handed_over a b c (Some text) p q = prints_then contents a b c text p q
+
+  pub front_handed_over : (a b c : Output W) (text : Option (List ℕ)) → IfSome text (Prints contents a b) → Prints contents b c [] → IfSome text (PrintsFront contents a c)
+  front_handed_over a b c None p q = tt
+  front_handed_over a b c (Some text) p q = record { front = text; rest = []; whole = sym (append-nil text); prints = prints_then contents a b c text p q }
 
 -- what is kept before bytes are appended
 kept_first : (a b c : Option (List ℕ)) (s : List ℕ) → Keeps a b → Appends b c s → Appends a c s

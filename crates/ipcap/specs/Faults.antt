@@ -5,7 +5,7 @@ use Rattle.ipcap.specs.Streams.{Gets, GetsFront}
 use Rattle.ipcap.specs.declared.output.Output.{Output}
 
 -- why it failed, if that is known, and the end of the line
-unfoldable pub reason_text : Option (List ℕ) → List ℕ
+abbrev pub reason_text : Option (List ℕ) → List ℕ
 reason_text None = codes "\n"
 reason_text (Some reason) = codes ": " ++ (reason ++ codes "\n")
 

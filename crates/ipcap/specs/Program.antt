@@ -11,6 +11,7 @@ use Rattle.clap.specs.Words.{HasKind, IsParsedFrom, app_of, fault_of, found_of, 
 use Rattle.clap.specs.Words.{rows_of}
 use Rattle.clap.specs.declared.builder.command.Command.{Command}
 use Rattle.clap.specs.declared.error.Error as text
+use Rattle.clap.specs.declared.error.kind.ErrorKind.TheVariants as kind
 use Rattle.clap.specs.declared.error.kind.ErrorKind.TheVariants.{DisplayHelp, DisplayVersion}
 use Rattle.clap.specs.declared.parser.matches.ArgMatches.{ArgMatches}
 use Rattle.packet_filter.specs.declared.reading.FilterError.{FilterError}
@@ -81,10 +82,13 @@ pub record IsCommandLine (words : List (List ℕ)) (matches : ArgMatches) : Type
 abbrev pub HasNoMatches : List (List ℕ) → text.Error → Type 0
 HasNoMatches words = HasKind (fault_of (app_with options) words)
 
--- the exit status then: 0 if the words ask for help or the version, and otherwise 2
+-- the exit status then: 0 if the words ask for help or the version, 3 if there was no memory, and
+-- otherwise 2
 pub record HasCode (e : text.Error) (code : ℕ) : Type 0 where
   pub shown : (kind_of e ≡ DisplayHelp) ⊎ (kind_of e ≡ DisplayVersion) → code ≡ 0
-  pub mistake : kind_of e ≢ DisplayHelp → kind_of e ≢ DisplayVersion → code ≡ 2
+  pub no_memory : kind_of e ≡ kind.OutOfMemory → code ≡ 3
+  pub mistake : kind_of e ≢ DisplayHelp → kind_of e ≢ DisplayVersion
+      → kind_of e ≢ kind.OutOfMemory → code ≡ 2
 
 -- Why nothing comes of words, as this error says: there is no memory to read them, or the text on
 -- them cannot be shown.

@@ -1,6 +1,6 @@
 -- The packets that are put together of fragments.
-use Rattle.std.specs.Prelude.{ℕ, ◌≡◌, ◌+◌, ◌-◌, ◌*◌, ◌^◌, Bool, List, MatchOption, Option, Some}
-use Rattle.std.specs.Prelude.{None, false, length, min, true}
+use Rattle.std.specs.Prelude.{ℕ, ◌≡◌, ◌+◌, ◌-◌, ◌*◌, ◌%◌, ◌^◌, Bool, List, MatchOption, Option}
+use Rattle.std.specs.Prelude.{None, Some, false, length, min, true}
 use Rattle.frame_reassembly.specs.Step.{TakesFrame}
 use Rattle.frame_reassembly.specs.declared.datagrams.Datagrams.{Datagrams}
 use Rattle.packet.specs.Link.{link_type_of}
@@ -22,9 +22,11 @@ pub record Stays (before after : Totals) (old new : Memory) (whole : Option (Lis
   pub memory : new ≡ old
   pub none : whole ≡ None
 
--- the time of a packet in nanoseconds, or 2^64 - 1, in the year 2554, if it is later
+-- The time of a packet in nanoseconds, by a clock that shows 2^63 at the start of 1970, so that
+-- times before that have their order too. In 1677 and before it shows 0, and from 2262 on 2^64 - 1.
 abbrev pub nanoseconds_at : Stamp → ℕ
-nanoseconds_at stamp = min (seconds_of stamp * 10 ^ 9 + nanoseconds_of stamp) (2 ^ 64 - 1)
+nanoseconds_at stamp = min ((seconds_of stamp + 2 ^ 63) % 2 ^ 64 * 10 ^ 9 + nanoseconds_of stamp
+    - 2 ^ 63 * (10 ^ 9 - 1)) (2 ^ 64 - 1)
 
 -- the frame is taken at the time of its packet, by slots and counts as they were before
 pub record Takes (link_type : LinkType) (head : PacketHead) (frame : List ℕ)

@@ -30,14 +30,16 @@ pub fn completed(
     len
 }
 
-// The time of a packet in nanoseconds, or the greatest that there is room for.
+// The time of a packet in nanoseconds, by a clock that shows 2^63 at the start of 1970.
 fn nanoseconds_at(head: &PacketHead) -> u64
     ensures value { result ≡ nanoseconds_at head.now.stamp }
 {
     let time = head.time();
-    time.seconds
-        .saturating_mul(1_000_000_000)
-        .saturating_add(time.nanoseconds)
+    // From the earliest time that 64 bits with a sign can say, in seconds.
+    let seconds = time.seconds.wrapping_add(1 << 63);
+    let nanoseconds = u128::from(seconds) * 1_000_000_000 + u128::from(time.nanoseconds);
+    let shown = nanoseconds.saturating_sub((1 << 63) * 999_999_999);
+    shown.min(u128::from(u64::MAX)) as u64
 }
 
 /// The head of a packet that is put together, whose frame has `len` bytes.

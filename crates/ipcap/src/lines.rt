@@ -23,6 +23,7 @@ use crate::place::End;
 use crate::reading::{NoPacket, Reading, is_cut};
 use crate::request::Mode;
 use crate::shown::{Detail, Shown, has_no_length, hops_of, len_of};
+use crate::streams::Printable;
 use crate::totals::Totals;
 use frame_reassembly::datagrams::Datagrams;
 use packet_capture::any::{PacketHead, Time};
@@ -96,6 +97,8 @@ pub struct RecordLine<'a> {
     /// Whether the packet is put together.
     pub is_reassembled: bool,
 }
+
+impl Printable for RecordLine<'_> {}
 
 impl fmt::Display for RecordLine<'_> {
     ghost output = { λ line. Some (record_line line.is_utc line.number
@@ -408,6 +411,8 @@ pub struct Report {
     pub closing: Closing,
 }
 
+impl Printable for Report {}
+
 impl fmt::Display for Report {
     ghost output = { λ report. Some (end_text report.closing.totals.bytes report.end
         ++ report_text report.closing.mode report.closing.has_filter report.closing.totals) };
@@ -431,6 +436,8 @@ pub struct Closing {
     /// What is counted.
     pub totals: Totals,
 }
+
+impl Printable for Closing {}
 
 impl fmt::Display for Closing {
     ghost output = { λ closing. Some (closing_text closing.mode closing.has_filter
@@ -534,6 +541,8 @@ fn write_datagrams<W: fmt::Write>(f: &mut Formatter<W>, datagrams: Option<Datagr
 #[derive(Clone, Copy)]
 pub struct NoCaptureLine(pub CaptureError);
 
+impl Printable for NoCaptureLine {}
+
 impl fmt::Display for NoCaptureLine {
     ghost output = { λ line. Some (capture_error_line line.0) };
 
@@ -595,6 +604,8 @@ fn other_format_named(magic: u32) -> Option<&'static str>
 /// The line on a capture with a link type that is not read.
 #[derive(Clone, Copy)]
 pub struct LinkTypeLine(pub u32);
+
+impl Printable for LinkTypeLine {}
 
 impl fmt::Display for LinkTypeLine {
     ghost output = { λ line. Some (link_type_line line.0) };

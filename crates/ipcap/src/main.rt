@@ -6,7 +6,6 @@ mod completing;
 mod dates;
 mod ends;
 mod failure;
-mod faults;
 mod files;
 mod input;
 mod lines;

@@ -1,16 +1,14 @@
 //! The lines or the records that a sink gets.
 
 ghost use Rattle.arrayvec.specs.ArrayVec.{array_vec_len};
-ghost use Rattle.std.specs.Prelude.{◌≡◌, ◌≤◌, ◌+◌, [], IfErr, IfSome, OnErr, OnOk, length};
+ghost use Rattle.std.specs.Prelude.{◌≡◌, ◌≤◌, ◌+◌, [], IfErr, IfSome, OnErr, OnOk, codes, length};
 ghost use Rattle.std.specs.Prelude.{option_map};
 ghost use Rattle.std.specs.declared.io.Error.{Error};
 
 use crate::failure::Failure;
-use crate::faults::Reason;
 use crate::input::ROOM;
-use crate::streams::{Line, Sink};
+use crate::streams::{Line, Printable, Sink};
 use arrayvec::ArrayVec;
-use std::fmt::Display;
 use std::io;
 
 // The room for bytes that the sink has not yet got: a block, or some thousand lines.
@@ -27,7 +25,7 @@ pub struct Output<W> {
 }
 
 impl<W: Sink> Output<W> {
-    ghost use Rattle.ipcap.specs.Faults.{Says, fault_line};
+    ghost use Rattle.ipcap.specs.Faults.{Says, fault_line, reason_text};
     ghost use Rattle.ipcap.specs.Streams.{NoWriteFails, Prints, PrintsFront, Reports, kept_if};
     ghost use Rattle.ipcap.specs.Streams.{pending};
 
@@ -45,7 +43,7 @@ impl<W: Sink> Output<W> {
     }
 
     /// Adds a line, and passes lines to the sink if there is no room for it.
-    pub fn print<D: Display + Drop>(&mut self, line: D) -> Result<(), Failure>
+    pub fn print<D: Printable>(&mut self, line: D) -> Result<(), Failure>
         ensures prints { OnOk result (IfSome (D.output line)
             (Prints W.contents self.old self.new)) }
         ensures kept { OnErr result (Prints W.contents self.old self.new []) }
@@ -127,7 +125,7 @@ impl<W: Sink> Output<W> {
 
     /// Adds the last lines, and passes all bytes to the sink. After an error it has got a front of
     /// them.
-    pub fn close<D: Display + Drop>(&mut self, lines: D) -> Result<(), Failure>
+    pub fn close<D: Printable>(&mut self, lines: D) -> Result<(), Failure>
         ensures prints { OnOk result (IfSome (D.output lines)
             (Prints W.contents self.old self.new)) }
         ensures all { OnOk result (pending self.new ≡ []) }
@@ -141,7 +139,7 @@ impl<W: Sink> Output<W> {
     }
 
     /// Adds the last lines, and passes them to the sink, if it takes them.
-    pub fn report<D: Display + Drop>(&mut self, lines: D)
+    pub fn report<D: Printable>(&mut self, lines: D)
         requires fresh { pending self.old ≡ [] }
         ensures reports { IfSome (D.output lines)
             (Reports W.contents W.has_failed self.old self.new) }
@@ -172,6 +170,7 @@ impl<W: Sink> Output<W> {
     fn report_fault(&mut self, what: &[u8], reason: Option<&str>)
         requires fresh { pending self.old ≡ [] }
         requires fits { length what.now ≤ ROOM }
+        requires reason_fits { IfSome reason (λ text. length text.now ≤ ROOM) }
         ensures reports { Reports W.contents W.has_failed self.old self.new
             (fault_line what.now (option_map (λ text. text.now) reason.entry)) }
     {
@@ -181,6 +180,7 @@ impl<W: Sink> Output<W> {
     // The same. After an error the sink has got a front of the line.
     fn print_fault(&mut self, what: &[u8], reason: Option<&str>) -> Result<(), Failure>
         requires fits { length what.now ≤ ROOM }
+        requires reason_fits { IfSome reason (λ text. length text.now ≤ ROOM) }
         ensures prints { OnOk result (Prints W.contents self.old self.new
             (fault_line what.now (option_map (λ text. text.now) reason.entry))) }
         ensures all { OnOk result (pending self.new ≡ []) }
@@ -191,6 +191,39 @@ impl<W: Sink> Output<W> {
     {
         self.copy(b"error: ")?;
         self.copy(what)?;
-        self.close(Reason(reason))
+        self.end_fault(reason)
+    }
+
+    // Adds why it failed, if that is known, and the end of the line, likewise.
+    fn end_fault(&mut self, reason: Option<&str>) -> Result<(), Failure>
+        requires reason_fits { IfSome reason (λ text. length text.now ≤ ROOM) }
+        ensures prints { OnOk result (Prints W.contents self.old self.new
+            (reason_text (option_map (λ text. text.now) reason.entry))) }
+        ensures all { OnOk result (pending self.new ≡ []) }
+        ensures front { OnErr result (PrintsFront W.contents self.old self.new
+            (reason_text (option_map (λ text. text.now) reason.entry))) }
+        ensures failed { IfErr result (λ e. (e ≡ Failure.Write) × W.has_failed self.new.sink) }
+        ensures unfailed_writes { OnOk result (NoWriteFails W.has_failed self.old self.new) }
+    {
+        match reason {
+            None => self.end_line(),
+            Some(reason) => {
+                self.copy(b": ")?;
+                self.copy(reason.as_bytes())?;
+                self.end_line()
+            }
+        }
+    }
+
+    // Adds the end of a line, likewise.
+    fn end_line(&mut self) -> Result<(), Failure>
+        ensures prints { OnOk result (Prints W.contents self.old self.new (codes "\n")) }
+        ensures all { OnOk result (pending self.new ≡ []) }
+        ensures front { OnErr result (PrintsFront W.contents self.old self.new (codes "\n")) }
+        ensures failed { IfErr result (λ e. (e ≡ Failure.Write) × W.has_failed self.new.sink) }
+        ensures unfailed_writes { OnOk result (NoWriteFails W.has_failed self.old self.new) }
+    {
+        self.copy(b"\n")?;
+        self.hand_over()
     }
 }

@@ -5,7 +5,8 @@ ghost use Rattle.std.specs.Prelude.{string_bytes, true};
 ghost use Rattle.std.specs.declared.io.Error.{Error};
 ghost use Rattle.ipcap.specs.Arguments.{text_of};
 ghost use Rattle.ipcap.specs.Faults.{Says};
-ghost use Rattle.ipcap.specs.Program.{Answers, IsRequest, LacksMemory, Obeys, Runs, RunsAnew, Stops};
+ghost use Rattle.ipcap.specs.Program.{Answers, HasCode, IsRequest, LacksMemory, Obeys, Runs};
+ghost use Rattle.ipcap.specs.Program.{RunsAnew, Stops};
 ghost use Rattle.ipcap.specs.Program.{failure_text, name_of, reason_of, unopened};
 ghost use Rattle.ipcap.specs.Request.{IsNoFilter};
 ghost use Rattle.ipcap.specs.Streams.{pending};
@@ -21,6 +22,7 @@ use crate::request::{Request, read_filter};
 use crate::run::run;
 use crate::streams::{Sink, Source};
 use crate::system::System;
+use clap::error::ErrorKind;
 use frame_reassembly::frame_reassembly::FrameReassembly;
 use packet_filter::FilterError;
 use std::alloc::Global;
@@ -70,7 +72,7 @@ pub fn obey<S: System, E: Sink>(
         Ok(matches) => matches,
         Err(e) => {
             system.show(&e)?;
-            return Ok(unopened(e.exit_code() as u8));
+            return Ok(unopened(code_of(&e)));
         }
     };
     match Arguments::from_matches(&matches) {
@@ -79,6 +81,17 @@ pub fn obey<S: System, E: Sink>(
             errors.say(e.text().as_bytes(), None);
             Ok(unopened(REFUSED))
         }
+    }
+}
+
+// The exit status for an error in the words.
+fn code_of(e: &clap::Error) -> u8
+    ensures code { HasCode e.now result }
+{
+    match e.kind() {
+        ErrorKind::DisplayHelp | ErrorKind::DisplayVersion => 0,
+        ErrorKind::OutOfMemory => FAILED,
+        _ => REFUSED,
     }
 }
 
@@ -100,7 +113,7 @@ fn answer<S: System, E: Sink>(
     let request = match request_of(arguments) {
         Ok(request) => request,
         Err(error) => {
-            let text = arguments.text.as_slice();
+            let text = &arguments.text;
             errors.report(RefusalLines { text, error });
             return unopened(REFUSED);
         }

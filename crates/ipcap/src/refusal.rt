@@ -4,7 +4,9 @@ ghost use Rattle.std.specs.Prelude.{◌≡◌, Some, map, replicate};
 ghost use Rattle.std.specs.Fmt.{DisplaysOnOk};
 ghost use Rattle.ipcap.specs.Refusal.{refusal_lines, shown_byte};
 
+use crate::arguments::Text;
 use crate::request::is_space;
+use crate::streams::Printable;
 use packet_filter::FilterError;
 use std::fmt;
 use std::fmt::Formatter;
@@ -13,17 +15,19 @@ use std::fmt::Formatter;
 #[derive(Clone, Copy)]
 pub struct RefusalLines<'a> {
     /// The text.
-    pub text: &'a [u8],
+    pub text: &'a Text,
     /// Why it is none.
     pub error: FilterError,
 }
 
+impl Printable for RefusalLines<'_> {}
+
 impl fmt::Display for RefusalLines<'_> {
-    ghost output = { λ lines. Some (refusal_lines lines.text.now lines.error) };
+    ghost output = { λ lines. Some (refusal_lines lines.text.now.items lines.error) };
 
     #[tactic(auto, unfolding(crate::specs::Refusal::refusal_lines))]
     fn fmt<W: fmt::Write>(&self, f: &mut Formatter<W>) -> fmt::Result {
-        let (error, text) = (self.error, Shown(self.text));
+        let (error, text) = (self.error, Shown(self.text.as_slice()));
         let place = Blanks(self.error.place().unwrap_or(self.text.len()));
         write!(f, "{error}\n{text}\n{place}^\n")
     }

@@ -14,9 +14,6 @@ returns-else-is_of c = grind (arith, common_steps)
 pub returns-else-is_of-2 : goal.returns-else-is_of-2
 returns-else-is_of-2 c = grind (arith, common_steps)
 
-pub returns-else-is_some : goal.returns-else-is_some
-returns-else-is_some c = grind (arith, common_steps)
-
 pub returns-in-Compare : goal.returns-in-Compare
 returns-in-Compare c = grind (arith, common_steps)
 
@@ -55,6 +52,3 @@ returns-in-WrongChecksum c = grind (arith, common_steps)
 
 pub returns-then-is_of : goal.returns-then-is_of
 returns-then-is_of c = grind (arith, common_steps)
-
-pub returns-then-is_some : goal.returns-then-is_some
-returns-then-is_some c = grind (arith, common_steps)
