@@ -28,7 +28,8 @@ impl fmt::Display for RefusalLines<'_> {
     #[tactic(auto, unfolding(crate::specs::Refusal::refusal_lines))]
     fn fmt<W: fmt::Write>(&self, f: &mut Formatter<W>) -> fmt::Result {
         let (error, text) = (self.error, Shown(self.text.as_slice()));
-        let place = Blanks(self.error.place().unwrap_or(self.text.len()));
+        let len = self.text.len();
+        let place = Blanks(self.error.place().unwrap_or(len).min(len));
         write!(f, "{error}\n{text}\n{place}^\n")
     }
 }
