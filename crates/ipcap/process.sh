@@ -174,7 +174,7 @@ arguments() {
     done
 }
 
-# What --help and --version print.
+# What --help and --version print, also if that cannot be written.
 help_and_version() {
     : >"$room/wanted.errors"
     echo 'ipcap 0.1.0' >"$room/wanted"
@@ -199,7 +199,7 @@ help_and_version() {
             fi
         done
         if [ "$(grep -c '^Usage: ' "$room/output")" -ne 1 ]; then
-            fail "$word" 'it does not say it once'
+            fail "$word" "it does not say 'Usage: ' once"
         else
             pass
         fi
@@ -1523,7 +1523,7 @@ forged_fragments() {
 }
 
 # Fragments, each as it came and put together: in VLANs of their own, contradicted, in the other
-# order, too late, for want of room, and cut by the capture.
+# order, too late, for want of room, cut by the capture, with dates, and about the start of 1970.
 reassembled() {
     fragmented 60 >"$room/input"
     {
@@ -1642,7 +1642,7 @@ reassembled() {
             timed 50 7
             timed $((50 + apart)) 10
         } >"$room/input"
-        datagrams 2 2 0 0 $((60 - apart)) 0 $((2 * (apart - 59))) >"$room/wanted"
+        datagrams 2 2 0 0 $((apart == 59)) 0 $((apart == 60 ? 2 : 0)) >"$room/wanted"
         run --reassemble --quiet
         judge "fragments before and after the start of 1970, $apart seconds apart" $? 0
     done

@@ -296,7 +296,7 @@ unsafe impl Sync for IpDefragPool<'_> {}
 impl<'a> IpDefragPool<'a> {
     /// A pool in which no datagram is. It has as many slots as there are of those and of memory: the
     /// smaller length of both. A datagram is kept for so many ticks of the caller's clock after its
-    /// first fragment: [`TIMEOUT_SECONDS`], if those are seconds.
+    /// first-arriving fragment: [`TIMEOUT_SECONDS`], if those are seconds.
     ///
     /// # Panics
     ///

@@ -9,8 +9,8 @@
 //! A new destination updates a checksum for the final one (RFC 791 section 3.1, RFC 8200 section
 //! 8.1), unless a source route or a routing header keeps that, or it is unknown. A new IPv6 source
 //! updates it for the original one, unless a Home Address option keeps that (RFC 6275 section
-//! 11.3.1) or Shim6 hides it. The checksums of other upper layers, of mobility headers (135) and of
-//! the Host Identity Protocol (139) stay as they are, and can become wrong.
+//! 11.3.1) or Shim6 hides it. Checksums other than those of UDP, TCP and ICMPv6, also of mobility
+//! headers (135) and the Host Identity Protocol (139), stay as they are, and can become wrong.
 //!
 //! A checksum and a port are numbers whose high byte comes first in the packet.
 

@@ -278,7 +278,7 @@ static bool holds(const struct primitive *p, const struct seen *frame)
     case LOAD:
         return is_loaded(p, frame);
     case FRAGMENT:
-        return parts->ip.is_fragment && (p->which == 0 || !parts->ip.is_later_fragment);
+        return parts->ip.is_fragment && (p->which == 0 || parts->ip.fragment_offset == 0);
     default:
         return parts->header_checksum == ETHERPARSE_WRONG || parts->payload_checksum == ETHERPARSE_WRONG;
     }

@@ -204,7 +204,7 @@ struct etherparse_defrag_written {
 void etherparse_defrag_slot_new(struct etherparse_defrag_slot *slot, uint8_t *memory, size_t len);
 
 /* Makes the state of a pool with count slots, at least one, which etherparse_defrag_slot_new made. A
- * datagram is kept for timeout ticks of the caller's clock after the first fragment that came:
+ * datagram is kept for timeout ticks of the caller's clock after its first-arriving fragment:
  * ETHERPARSE_DEFRAG_TIMEOUT_SECONDS, if those are seconds. Neither pointer is null. */
 void etherparse_defrag_pool_new(struct etherparse_defrag_pool_state *state,
     struct etherparse_defrag_slot *slots, size_t count, uint64_t timeout);

@@ -1,4 +1,4 @@
-//! How a filter is printed, and what a fragment of a fragment is.
+//! How a filter is printed, and which header decides in a fragment of a fragment.
 
 use crate::shared::assert_equal;
 use packet::lax_sliced_packet::LaxSlicedPacket;

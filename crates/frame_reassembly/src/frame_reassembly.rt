@@ -71,8 +71,8 @@ impl<'a, 'b> FrameReassembly<'a, 'b> {
     /// payload.
     pub const MAX_PACKET_LEN: usize = 65_575;
 
-    /// How long after its first-arriving fragment a datagram is given up, in nanoseconds: 60 seconds
-    /// (RFC 8200 section 4.5, RFC 1122 section 3.3.2).
+    /// How long after its first-arriving fragment a datagram is given up, in nanoseconds: 60
+    /// seconds (RFC 8200 section 4.5, RFC 1122 section 3.3.2).
     pub const TIMEOUT_NANOSECONDS: u64 = 60_000_000_000;
 
     /// With these slots, from one to [`FrameReassembly::SLOTS`] of them. Datagrams that have slots

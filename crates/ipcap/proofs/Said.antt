@@ -8,30 +8,32 @@ use Rattle.ipcap.specs.declared.output.Output.{Output}
 use Rattle.ipcap.proofs.Runs.{front_then, prints_both, prints_then}
 
 module _ {W : Type 0} (contents : W → Option (List ℕ)) (a b c d : Output W) (first second : List ℕ) (begun : Prints contents a b first) where
-  -- a line is begun
-  pub fault_begun : (text : List ℕ) → Prints contents b c [] → PrintsFront contents a c (first ++ text)
-  fault_begun text kept = record { front = first; rest = text; whole = refl; prints = prints_then contents a b c first begun kept }
+  -- a piece of a line is printed, and nothing more
+  pub piece_begun : (text : List ℕ) → Prints contents b c [] → PrintsFront contents a c (first ++ text)
+  piece_begun text kept = record { front = first; rest = text; whole = refl; prints = prints_then contents a b c first begun kept }
 
   -- two pieces of it are printed, and the rest
-  pub fault_printed : {T E : Type 0} (r : Result T E) (rest : List ℕ) → Prints contents b c second → OnOk r (Prints contents c d rest) → OnOk r (Prints contents a d (first ++ (second ++ rest)))
-  fault_printed (Ok x) rest p q = prints_both contents a b d first (second ++ rest) begun (prints_both contents b c d second rest p q)
-  fault_printed (Err e) rest p q = tt
+  pub pieces_printed : {T E : Type 0} (r : Result T E) (rest : List ℕ) → Prints contents b c second → OnOk r (Prints contents c d rest) → OnOk r (Prints contents a d (first ++ (second ++ rest)))
+  pieces_printed (Ok x) rest p q = prints_both contents a b d first (second ++ rest) begun (prints_both contents b c d second rest p q)
+  pieces_printed (Err e) rest p q = tt
 
   -- or a front of that
-  pub front_printed : {T E : Type 0} (r : Result T E) (rest : List ℕ) → Prints contents b c second → OnErr r (PrintsFront contents c d rest) → OnErr r (PrintsFront contents a d (first ++ (second ++ rest)))
-  front_printed (Ok x) rest p q = tt
-  front_printed (Err e) rest p q = front_then contents a b d first (second ++ rest) begun (front_then contents b c d second rest p q)
+  pub front_of_pieces : {T E : Type 0} (r : Result T E) (rest : List ℕ) → Prints contents b c second → OnErr r (PrintsFront contents c d rest) → OnErr r (PrintsFront contents a d (first ++ (second ++ rest)))
+  front_of_pieces (Ok x) rest p q = tt
+  front_of_pieces (Err e) rest p q = front_then contents a b d first (second ++ rest) begun (front_then contents b c d second rest p q)
 
--- a text that is printed before all is handed over
 module _ {W : Type 0} (contents : W → Option (List ℕ)) where
+  -- nothing of a text is printed
   pub nothing_printed : (a b : Output W) (text : Option (List ℕ)) → Prints contents a b [] → IfSome text (PrintsFront contents a b)
   nothing_printed a b None p = tt
   nothing_printed a b (Some text) p = record { front = []; rest = text; whole = refl; prints = p }
 
+  -- a text is printed, and all is handed over
   pub all_handed_over : (a b c : Output W) (text : Option (List ℕ)) → IfSome text (Prints contents a b) → Prints contents b c [] → IfSome text (Prints contents a c)
   all_handed_over a b c None p q = tt
   all_handed_over a b c (Some text) p q = prints_then contents a b c text p q
 
+  -- or a front of it
   pub front_handed_over : (a b c : Output W) (text : Option (List ℕ)) → IfSome text (Prints contents a b) → Prints contents b c [] → IfSome text (PrintsFront contents a c)
   front_handed_over a b c None p q = tt
   front_handed_over a b c (Some text) p q = record { front = text; rest = []; whole = sym (append-nil text); prints = prints_then contents a b c text p q }

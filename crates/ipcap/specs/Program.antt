@@ -12,7 +12,6 @@ use Rattle.clap.specs.Words.{rows_of}
 use Rattle.clap.specs.declared.builder.command.Command.{Command}
 use Rattle.clap.specs.declared.error.Error as text
 use Rattle.clap.specs.declared.error.kind.ErrorKind.TheVariants as kind
-use Rattle.clap.specs.declared.error.kind.ErrorKind.TheVariants.{DisplayHelp, DisplayVersion}
 use Rattle.clap.specs.declared.parser.matches.ArgMatches.{ArgMatches}
 use Rattle.packet_filter.specs.declared.reading.FilterError.{FilterError}
 use Rattle.ipcap.specs.Arguments.{IsArguments, RefusesMatches, arguments_error_text, text_of}
@@ -82,12 +81,12 @@ pub record IsCommandLine (words : List (List ℕ)) (matches : ArgMatches) : Type
 abbrev pub HasNoMatches : List (List ℕ) → text.Error → Type 0
 HasNoMatches words = HasKind (fault_of (app_with options) words)
 
--- the exit status then: 0 if the words ask for help or the version, 3 if there was no memory, and
--- otherwise 2
+-- the exit status then: 0 if the words ask for help or the version, 3 if the error is that there
+-- was no memory, and otherwise 2
 pub record HasCode (e : text.Error) (code : ℕ) : Type 0 where
-  pub shown : (kind_of e ≡ DisplayHelp) ⊎ (kind_of e ≡ DisplayVersion) → code ≡ 0
+  pub shown : (kind_of e ≡ kind.DisplayHelp) ⊎ (kind_of e ≡ kind.DisplayVersion) → code ≡ 0
   pub no_memory : kind_of e ≡ kind.OutOfMemory → code ≡ 3
-  pub mistake : kind_of e ≢ DisplayHelp → kind_of e ≢ DisplayVersion
+  pub mistake : kind_of e ≢ kind.DisplayHelp → kind_of e ≢ kind.DisplayVersion
       → kind_of e ≢ kind.OutOfMemory → code ≡ 2
 
 -- Why nothing comes of words, as this error says: there is no memory to read them, or the text on

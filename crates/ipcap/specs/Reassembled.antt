@@ -23,7 +23,8 @@ pub record Stays (before after : Totals) (old new : Memory) (whole : Option (Lis
   pub none : whole ≡ None
 
 -- The time of a packet in nanoseconds, by a clock that shows 2^63 at the start of 1970, so that
--- times before that have their order too. In 1677 and before it shows 0, and from 2262 on 2^64 - 1.
+-- times before that have their order too. Before 1677-09-21 it shows 0, and after 2262-04-11
+-- 2^64 - 1.
 abbrev pub nanoseconds_at : Stamp → ℕ
 nanoseconds_at stamp = min ((seconds_of stamp + 2 ^ 63) % 2 ^ 64 * 10 ^ 9 + nanoseconds_of stamp
     - 2 ^ 63 * (10 ^ 9 - 1)) (2 ^ 64 - 1)

@@ -35,7 +35,7 @@ fn nanoseconds_at(head: &PacketHead) -> u64
     ensures value { result ≡ nanoseconds_at head.now.stamp }
 {
     let time = head.time();
-    // From the earliest time that 64 bits with a sign can say, in seconds.
+    // Since -2^63, the earliest that an i64 can say.
     let seconds = time.seconds.wrapping_add(1 << 63);
     let nanoseconds = u128::from(seconds) * 1_000_000_000 + u128::from(time.nanoseconds);
     let shown = nanoseconds.saturating_sub((1 << 63) * 999_999_999);

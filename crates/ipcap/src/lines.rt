@@ -23,7 +23,7 @@ use crate::place::End;
 use crate::reading::{NoPacket, Reading, is_cut};
 use crate::request::Mode;
 use crate::shown::{Detail, Shown, has_no_length, hops_of, len_of};
-use crate::streams::Printable;
+use crate::streams::FitsLine;
 use crate::totals::Totals;
 use frame_reassembly::datagrams::Datagrams;
 use packet_capture::any::{PacketHead, Time};
@@ -98,7 +98,7 @@ pub struct RecordLine<'a> {
     pub is_reassembled: bool,
 }
 
-impl Printable for RecordLine<'_> {}
+impl FitsLine for RecordLine<'_> {}
 
 impl fmt::Display for RecordLine<'_> {
     ghost output = { λ line. Some (record_line line.is_utc line.number
@@ -411,7 +411,7 @@ pub struct Report {
     pub closing: Closing,
 }
 
-impl Printable for Report {}
+impl FitsLine for Report {}
 
 impl fmt::Display for Report {
     ghost output = { λ report. Some (end_text report.closing.totals.bytes report.end
@@ -437,7 +437,7 @@ pub struct Closing {
     pub totals: Totals,
 }
 
-impl Printable for Closing {}
+impl FitsLine for Closing {}
 
 impl fmt::Display for Closing {
     ghost output = { λ closing. Some (closing_text closing.mode closing.has_filter
@@ -541,7 +541,7 @@ fn write_datagrams<W: fmt::Write>(f: &mut Formatter<W>, datagrams: Option<Datagr
 #[derive(Clone, Copy)]
 pub struct NoCaptureLine(pub CaptureError);
 
-impl Printable for NoCaptureLine {}
+impl FitsLine for NoCaptureLine {}
 
 impl fmt::Display for NoCaptureLine {
     ghost output = { λ line. Some (capture_error_line line.0) };
@@ -605,7 +605,7 @@ fn other_format_named(magic: u32) -> Option<&'static str>
 #[derive(Clone, Copy)]
 pub struct LinkTypeLine(pub u32);
 
-impl Printable for LinkTypeLine {}
+impl FitsLine for LinkTypeLine {}
 
 impl fmt::Display for LinkTypeLine {
     ghost output = { λ line. Some (link_type_line line.0) };

@@ -7,7 +7,7 @@ ghost use Rattle.std.specs.declared.io.Error.{Error};
 
 use crate::failure::Failure;
 use crate::input::ROOM;
-use crate::streams::{Line, Printable, Sink};
+use crate::streams::{FitsLine, Line, Sink};
 use arrayvec::ArrayVec;
 use std::io;
 
@@ -43,7 +43,7 @@ impl<W: Sink> Output<W> {
     }
 
     /// Adds a line, and passes lines to the sink if there is no room for it.
-    pub fn print<D: Printable>(&mut self, line: D) -> Result<(), Failure>
+    pub fn print<D: FitsLine>(&mut self, line: D) -> Result<(), Failure>
         ensures prints { OnOk result (IfSome (D.output line)
             (Prints W.contents self.old self.new)) }
         ensures kept { OnErr result (Prints W.contents self.old self.new []) }
@@ -125,7 +125,7 @@ impl<W: Sink> Output<W> {
 
     /// Adds the last lines, and passes all bytes to the sink. After an error it has got a front of
     /// them.
-    pub fn close<D: Printable>(&mut self, lines: D) -> Result<(), Failure>
+    pub fn close<D: FitsLine>(&mut self, lines: D) -> Result<(), Failure>
         ensures prints { OnOk result (IfSome (D.output lines)
             (Prints W.contents self.old self.new)) }
         ensures all { OnOk result (pending self.new ≡ []) }
@@ -139,7 +139,7 @@ impl<W: Sink> Output<W> {
     }
 
     /// Adds the last lines, and passes them to the sink, if it takes them.
-    pub fn report<D: Printable>(&mut self, lines: D)
+    pub fn report<D: FitsLine>(&mut self, lines: D)
         requires fresh { pending self.old ≡ [] }
         ensures reports { IfSome (D.output lines)
             (Reports W.contents W.has_failed self.old self.new) }
@@ -194,7 +194,8 @@ impl<W: Sink> Output<W> {
         self.end_fault(reason)
     }
 
-    // Adds why it failed, if that is known, and the end of the line, likewise.
+    // Adds why it failed, if that is known, and the end of the line, and passes all bytes to the
+    // sink. After an error it has got a front of them.
     fn end_fault(&mut self, reason: Option<&str>) -> Result<(), Failure>
         requires reason_fits { IfSome reason (λ text. length text.now ≤ ROOM) }
         ensures prints { OnOk result (Prints W.contents self.old self.new
@@ -215,7 +216,8 @@ impl<W: Sink> Output<W> {
         }
     }
 
-    // Adds the end of a line, likewise.
+    // Adds the end of a line, and passes all bytes to the sink. After an error it has got a front
+    // of them.
     fn end_line(&mut self) -> Result<(), Failure>
         ensures prints { OnOk result (Prints W.contents self.old self.new (codes "\n")) }
         ensures all { OnOk result (pending self.new ≡ []) }

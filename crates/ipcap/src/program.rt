@@ -31,7 +31,7 @@ use std::io;
 /// The exit status if the command line or the expression is refused, or a file cannot be opened.
 pub const REFUSED: u8 = 2;
 
-/// The exit status if a read or a write failed.
+/// The exit status if a read or a write failed, or there was no memory.
 pub const FAILED: u8 = 3;
 
 const _: () = prove!(REFUSED == 2 && FAILED == 3);
@@ -72,7 +72,7 @@ pub fn obey<S: System, E: Sink>(
         Ok(matches) => matches,
         Err(e) => {
             system.show(&e)?;
-            return Ok(unopened(code_of(&e)));
+            return Ok(unopened(code_of_error(&e)));
         }
     };
     match Arguments::from_matches(&matches) {
@@ -85,7 +85,7 @@ pub fn obey<S: System, E: Sink>(
 }
 
 // The exit status for an error in the words.
-fn code_of(e: &clap::Error) -> u8
+fn code_of_error(e: &clap::Error) -> u8
     ensures code { HasCode e.now result }
 {
     match e.kind() {

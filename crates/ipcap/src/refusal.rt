@@ -6,7 +6,7 @@ ghost use Rattle.ipcap.specs.Refusal.{refusal_lines, shown_byte};
 
 use crate::arguments::Text;
 use crate::request::is_space;
-use crate::streams::Printable;
+use crate::streams::FitsLine;
 use packet_filter::FilterError;
 use std::fmt;
 use std::fmt::Formatter;
@@ -20,7 +20,7 @@ pub struct RefusalLines<'a> {
     pub error: FilterError,
 }
 
-impl Printable for RefusalLines<'_> {}
+impl FitsLine for RefusalLines<'_> {}
 
 impl fmt::Display for RefusalLines<'_> {
     ghost output = { λ lines. Some (refusal_lines lines.text.now.items lines.error) };

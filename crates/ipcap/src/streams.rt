@@ -21,11 +21,11 @@ const _: () = prove!(LINE_ROOM == 16_384);
 /// A line, or the lines at the end.
 pub type Line = ArrayString<LINE_ROOM>;
 
-/// What can be written to a `Line`: there is room in it for each text of such a type. That is tested,
-/// not proved, so a text of another type, for which there may be no room, cannot be formatted.
-pub trait Printable: Display + Drop {}
+/// A type whose texts all fit in a `Line`, which is tested and not proved. No other can be
+/// formatted, so that a sink fails only by a write.
+pub trait FitsLine: Display + Drop {}
 
-impl Printable for io::Error {}
+impl FitsLine for io::Error {}
 
 /// What a run reads from.
 ///
@@ -80,7 +80,7 @@ pub trait Sink {
         ensures why { IfErr result (λ e. why_failed self.new ≡ Some e) };
 
     /// Writes a text to an empty line, as `write!` does. What the sink holds stays as it is.
-    fn format<D: Printable>(&mut self, text: D, line: &mut Line) -> io::Result<()>
+    fn format<D: FitsLine>(&mut self, text: D, line: &mut Line) -> io::Result<()>
         requires empty { line.old.bytes ≡ [] }
         ensures text { OnOk result (IfSome (D.output text) (λ bytes. line.new.bytes ≡ bytes)) }
         ensures made { OnOk result (is_text D text line.new.bytes) }
@@ -162,7 +162,7 @@ impl<W: Write> Sink for Watched<W> {
         Err(e)
     }
 
-    fn format<D: Printable>(&mut self, text: D, line: &mut Line) -> io::Result<()> {
+    fn format<D: FitsLine>(&mut self, text: D, line: &mut Line) -> io::Result<()> {
         match write!(line, "{text}") {
             Ok(()) => Ok(()),
             Err(fmt::Error) => {

@@ -44,7 +44,7 @@ followed_once L one d n s a b (is_lost _ _ e) (passes {next = x} _ _ _ f h) =
 followed_once L one d n s a b (passes _ enough _ _ _) (is_incomplete _ short) = absurd (omega (arith, enough, short))
 followed_once L one d n s a b (is_incomplete _ short) (passes _ enough _ _ _) = absurd (omega (arith, enough, short))
 
--- if a header leaves a known address in place of one, so it does of another
+-- if a header leaves a known address, it does so whatever came before
 abbrev pub LeavesSome : (List ℕ → ℕ → List ℕ → Option (List ℕ) → Type 0) → Type 0
 LeavesSome Leaves = (d e : List ℕ) (n : ℕ) (h x : List ℕ) → Leaves d n h (Some x) → Leaves e n h None → ⊥
 

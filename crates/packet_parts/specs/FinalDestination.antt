@@ -114,12 +114,13 @@ destination_after destination number header =
 
 -- what an extension header of a number leaves as the destination
 abbrev pub LeavesDestination : List ℕ → ℕ → List ℕ → Option (List ℕ) → Type 0
-LeavesDestination destination number header next = next ≡ destination_after destination number header
+LeavesDestination destination number header next =
+    next ≡ destination_after destination number header
 
 -- The final destination of an IPv6 packet (RFC 8200 section 8.1), from the destination of its
--- header, the number of its first extension header and the bytes of all of them. It is unknown too
--- if a routing header with segments left has no last address. The compressed segments of RFC 9800
--- are not looked into.
+-- header, the number of its first extension header and the bytes of all of them. A routing header
+-- with segments left and no last address makes it unknown; `FollowsIpv6` says what else does. The
+-- compressed segments of RFC 9800 are not looked into.
 abbrev pub GoesToIpv6 : List ℕ → ℕ → List ℕ → Option (List ℕ) → Type 0
 GoesToIpv6 destination first extensions final =
     FollowsIpv6 LeavesDestination destination first extensions final

@@ -31,7 +31,7 @@ pub record HasSourceAfter (source bytes next : List ℕ) : Type 0 where
 
 -- What an extension header of a number leaves as the source: destination options (60) can make it a
 -- home address, also where such an option must not stand (before a routing header, after a fragment
--- header, AH or ESP); any other header leaves it as it is.
+-- header or AH); any other header leaves it as it is.
 abbrev pub LeavesSource : List ℕ → ℕ → List ℕ → Option (List ℕ) → Type 0
 LeavesSource source number header next = MatchBool (number == 60)
     (IsSomeAnd next (HasSourceAfter source (drop 2 header))) (next ≡ Some source)

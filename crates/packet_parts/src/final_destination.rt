@@ -103,7 +103,8 @@ fn after_route(destination: [u8; 4], route: &[u8]) -> [u8; 4]
 /// an extension header is incomplete. The compressed segments of RFC 9800 are not looked into.
 ///
 /// What follows the fragment header of a later fragment is no header: leave it out, as
-/// [`IpSlice::extensions`] does. If it names an extension header, the answer is `None`.
+/// [`IpSlice::extensions`] does. If that fragment header names an extension header, the answer is
+/// `None`.
 ///
 /// # Example
 ///

@@ -16,13 +16,14 @@ use etherparse_net::Ipv6OptionsIterator;
 /// section 6.3) in destination options, wherever these stand. A mobile node that is away from home
 /// and uses route optimization sends from its care-of address, and its checksums cover its home
 /// address (section 11.3.1). If there are several of these options, the last one counts. One that
-/// has other than 16 bytes of data, or is cut off, is none.
+/// has other than 16 bytes of data, or is cut off, does not count.
 ///
 /// `None` if it is not known: a payload header of Shim6 hides it (RFC 5533 section 5.2), or an
 /// extension header is incomplete.
 ///
 /// What follows the fragment header of a later fragment is no header: leave it out, as
-/// [`IpSlice::extensions`] does. If it names an extension header, the answer is `None`.
+/// [`IpSlice::extensions`] does. If that fragment header names an extension header, the answer is
+/// `None`.
 ///
 /// # Example
 ///

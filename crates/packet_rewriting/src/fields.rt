@@ -1,8 +1,8 @@
 //! Fields of a whole IP packet, changed where they stand: addresses, ports, DSCP and ECN. The
 //! checksums of the IPv4 header, UDP, TCP and ICMPv6 that cover a field are updated for it (RFC
-//! 1624 section 3), so that a right one stays right, and a wrong one is not repaired. Those of other
-//! upper layers, of mobility headers (135) and of the Host Identity Protocol (139) stay as they are,
-//! and can become wrong.
+//! 1624 section 3), so that a right one stays right, and a wrong one is not repaired. Other
+//! checksums, also of mobility headers (135) and the Host Identity Protocol (139), stay as they
+//! are, and can become wrong.
 
 ghost use Rattle.std.specs.Prelude.{◌≡◌, ◌+◌, ◌*◌, ◌/◌, ◌%◌, ◌^◌, ◌<◌, ◌≤◌, [], ◌∷◌, drop};
 ghost use Rattle.std.specs.Prelude.{length};
