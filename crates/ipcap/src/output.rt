@@ -2,7 +2,7 @@
 
 ghost use Rattle.arrayvec.specs.ArrayVec.{array_vec_len};
 ghost use Rattle.std.specs.Prelude.{◌≡◌, ◌≤◌, ◌+◌, [], IfErr, IfSome, OnErr, OnOk, codes, length};
-ghost use Rattle.std.specs.Prelude.{option_map};
+ghost use Rattle.std.specs.Prelude.{Some, option_map};
 ghost use Rattle.std.specs.declared.io.Error.{Error};
 
 use crate::failure::Failure;
@@ -208,12 +208,24 @@ impl<W: Sink> Output<W> {
     {
         match reason {
             None => self.end_line(),
-            Some(reason) => {
-                self.copy(b": ")?;
-                self.copy(reason.as_bytes())?;
-                self.end_line()
-            }
+            Some(reason) => self.end_with(reason),
         }
+    }
+
+    // The same, if it is known.
+    fn end_with(&mut self, reason: &str) -> Result<(), Failure>
+        requires reason_fits { length reason.now ≤ ROOM }
+        ensures prints { OnOk result (Prints W.contents self.old self.new
+            (reason_text (Some reason.now))) }
+        ensures all { OnOk result (pending self.new ≡ []) }
+        ensures front { OnErr result (PrintsFront W.contents self.old self.new
+            (reason_text (Some reason.now))) }
+        ensures failed { IfErr result (λ e. (e ≡ Failure.Write) × W.has_failed self.new.sink) }
+        ensures unfailed_writes { OnOk result (NoWriteFails W.has_failed self.old self.new) }
+    {
+        self.copy(b": ")?;
+        self.copy(reason.as_bytes())?;
+        self.end_line()
     }
 
     // Adds the end of a line, and passes all bytes to the sink. After an error it has got a front

@@ -7,10 +7,7 @@ returns-in-Err-clause-obeys g c = inl (record {
   code = _;
   read = rw (c.in_ok-matches.was, c.in-Err.is) at c.read.ensures.reads;
   none = rw c.in-Err.is at c.in_ok-matches.ensures.none;
-  is_code = record {
-    shown = λ h. rw (c.exit_code.ensures.shown h) refl;
-    mistake = λ help version. rw (c.exit_code.ensures.mistake help version) refl;
-  };
+  is_code = c.code_of_error.ensures.code;
   shown = c.in_ok-show-in-Err.ensures.shows;
   ends = c.unopened.ensures.value;
   asks = c.show.ensures.asked;
