@@ -19,24 +19,24 @@ import sys
 
 PROGRAM = pathlib.Path(__file__).resolve().parents[2] / 'crates/ipcap/out/ipcap'
 FIELDS = ('frame.time_epoch', 'frame.encap_type', 'frame.cap_len', 'frame.len', 'frame.protocols', 'ip.version', 'ip.src', 'ip.dst',
-          'ip.ttl', 'ip.proto', 'ip.hdr_len', 'ip.len', 'ip.id', 'ip.frag_offset', 'ip.flags.mf', 'ip.checksum.status', 'ipv6.src',
-          'ipv6.dst', 'ipv6.hlim', 'ipv6.nxt', 'ipv6.plen', 'ipv6.hopopts.nxt', 'ipv6.routing.nxt', 'ipv6.dstopts.nxt', 'ah.next_header',
-          'ipv6.fraghdr.nxt', 'ipv6.fraghdr.offset', 'ipv6.fraghdr.more', 'ipv6.fraghdr.ident', 'udp.srcport', 'udp.dstport',
-          'udp.checksum.status', 'tcp.srcport', 'tcp.dstport', 'tcp.checksum', 'tcp.checksum.status', 'icmp.type', 'icmp.code',
-          'icmp.checksum.status', 'icmpv6.type', 'icmpv6.code', 'icmpv6.checksum.status')
+          'ip.ttl', 'ip.proto', 'ip.hdr_len', 'ip.len', 'ip.id', 'ip.frag_offset', 'ip.flags.mf', 'ip.checksum.status', 'ip.opt.ptr',
+          'ipv6.src', 'ipv6.dst', 'ipv6.hlim', 'ipv6.nxt', 'ipv6.plen', 'ipv6.hopopts.nxt', 'ipv6.routing.nxt', 'ipv6.dstopts.nxt',
+          'ah.next_header', 'ipv6.fraghdr.nxt', 'ipv6.fraghdr.offset', 'ipv6.fraghdr.more', 'ipv6.fraghdr.ident', 'udp.srcport',
+          'udp.dstport', 'udp.checksum.status', 'tcp.srcport', 'tcp.dstport', 'tcp.checksum', 'tcp.checksum.status', 'icmp.type',
+          'icmp.code', 'icmp.checksum.status', 'icmpv6.type', 'icmpv6.code', 'icmpv6.checksum.status')
 # tshark is not to put anything together, and is to verify every checksum, also where the total length is 0.
 OPTIONS = ('ip.defragment:FALSE', 'ipv6.defragment:FALSE', 'tcp.desegment_tcp_streams:FALSE', 'tcp.analyze_sequence_numbers:FALSE',
            'wlan.enable_decryption:FALSE', 'ip.check_checksum:TRUE', 'tcp.check_checksum:TRUE', 'udp.check_checksum:TRUE')
 # The extension headers of IPv6 by their numbers, with the field that has the number of the next one.
 NEXT = {0: 'ipv6.hopopts.nxt', 43: 'ipv6.routing.nxt', 44: 'ipv6.fraghdr.nxt', 51: 'ah.next_header', 60: 'ipv6.dstopts.nxt'}
 # IANA's keywords of the protocols of which `ipcap` prints the keyword.
-KEYWORDS = {'ICMP': 1, 'IGMP': 2, 'IPv4': 4, 'TCP': 6, 'UDP': 17, 'DCCP': 33, 'IPv6': 41, 'RSVP': 46, 'GRE': 47, 'ESP': 50,
+KEYWORDS = {'ICMP': 1, 'IGMP': 2, 'IPv4': 4, 'TCP': 6, 'UDP': 17, 'IPIP': 94, 'IPv6': 41, 'RSVP': 46, 'GRE': 47, 'ESP': 50,
             'AH': 51, 'IPv6-ICMP': 58, 'IPv6-NoNxt': 59, 'EIGRP': 88, 'OSPFIGP': 89, 'PIM': 103, 'IPComp': 108, 'VRRP': 112,
             'L2TP': 115, 'SCTP': 132, 'UDPLite': 136, 'MPLS-in-IP': 137}
 UPPER = {17: ('udp', 'udp.srcport', 'udp.dstport', '>'), 6: ('tcp', 'tcp.srcport', 'tcp.dstport', '>'),
          1: ('icmp', 'icmp.type', 'icmp.code', '/'), 58: ('icmpv6', 'icmpv6.type', 'icmpv6.code', '/')}
 # What `ipcap` passes on the way to the packet, by tshark's names.
-PASSED = {'eth', 'ethertype', 'vlan', 'ieee8021ad', 'sll', 'null', 'raw', 'radiotap', 'wlan', 'llc', 'ppp', 'chdlc', 'fr'}
+PASSED = {'eth', 'ethertype', 'vlan', 'ieee8021ad', 'sll', 'null', 'raw', 'radiotap', 'wlan_radio', 'wlan', 'llc', 'ppp', 'chdlc', 'fr'}
 # The lengths of link headers, by tshark's names, and the least lengths of other headers, by the keywords.
 LINKS = {'eth': 14, 'sll': 16, 'null': 4}
 LEAST = {'UDP': 8, 'TCP': 20, 'ICMP': 4, 'IPv6-ICMP': 4}
@@ -110,7 +110,7 @@ def said(words):
 
 def is_same(key, ours, theirs):
     if key in ('source', 'destination'):
-        return ipaddress.ip_address(ours) == ipaddress.ip_address(theirs)
+        return bool(theirs) and ipaddress.ip_address(ours) == ipaddress.ip_address(theirs)
     if key == 'time':
         return theirs in (ours, ours + '000')
     if key == 'cut':
@@ -125,6 +125,8 @@ def reason(key, ours, theirs, words, told, digits):
         return 'a fraction of a second that is one or more, a time before 1970, or none'
     if key == 'time' and theirs.startswith(ours) and bin(fractions.Fraction(theirs).denominator).count('1') == 1:
         return 'a unit of a power of two above a microsecond, whose time is cut at six digits'
+    if key == 'destination' and told['ip.opt.ptr']:
+        return 'a source route, whose end tshark shows in place of the destination'
     if key in ('upper', 'length') and words[5].isdigit() and int(words[5]) in NEXT and 'cut' in words:
         return 'a packet that was truncated within its extension headers'
     if key == 'cut' and (max(map(int, ours or theirs)) > 2 ** 31 or int(theirs[0]) > int(theirs[1])):
@@ -133,7 +135,7 @@ def reason(key, ours, theirs, words, told, digits):
         return 'a total length of 0'
     if key in ('detail', 'payload') and is_later:
         return 'tshark shows the port of a later fragment'
-    if key == 'detail' and ours == '-' and ('cut' in words or '@' in words[12] or int(words[8]) < LEAST[words[5]]):
+    if key == 'detail' and ours == '-' and ('cut' in words or '@' in words[12] or int(words[8]) < LEAST.get(words[5], 0)):
         return 'an incomplete header'
     if key == 'payload' and ours == 'none' and 'ipv6.routing' in told['frame.protocols']:
         return 'a routing header of unknown type or with wrong numbers'
@@ -144,7 +146,8 @@ def reason(key, ours, theirs, words, told, digits):
 
 def is_damaged(told):
     """whether what tshark says of an IP header is a fault: the version, a length, or that there is no whole header"""
-    link = LINKS.get(told['frame.protocols'].partition(':')[0], 0)
+    before = told['frame.protocols'].split(':')
+    link = LINKS.get(before[0], 0) + 4 * sum(it in ('vlan', 'ieee8021ad') for it in before)
     room, captured = int(told['frame.len']) - link, int(told['frame.cap_len']) - link
     if 'ipv6' in told['frame.protocols'].split(':') and told['ipv6.plen']:
         return 40 + int(told['ipv6.plen']) > room or upper_of(told) is None or told['ip.version'] not in ('', '4')
@@ -162,6 +165,10 @@ def without_packet(words, told):
     before = protocols[:min(protocols.index(it) for it in ('ip', 'ipv6') if it in protocols)]
     if 'ppp' in before and 'chdlc' in before:
         return 'frames of Cisco in a capture of PPP'
+    if 'wlan' in before and words[3] in ('fragment', 'aggregate'):
+        return f'802.11: {words[3]}'
+    if words[3] == 'type' and words[4] in ('0x8100', '0x88a8', '0x9100'):
+        return 'a third tag'
     unread = next((it for it in before if it not in PASSED), None)
     return f'IP after another protocol: {unread}' if unread else 'FAILED: no packet'
 

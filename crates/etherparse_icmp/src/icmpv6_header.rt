@@ -48,8 +48,11 @@ impl Icmpv6Header {
     ghost use Rattle.etherparse_icmp.specs.Icmpv6.{HasIcmpv6Bytes, icmpv6_cleared};
     ghost use Rattle.etherparse_icmp.specs.Icmpv6Checksum.{IsIcmpv6Checksum};
 
-    /// The length of the header, in bytes: 8.
-    pub const LEN: usize = 8;
+    /// The length of the shortest header, in bytes: 8.
+    pub const MIN_LEN: usize = 8;
+
+    /// The length of the longest header, in bytes: 8, too.
+    pub const MAX_LEN: usize = 8;
 
     /// A header of this type, with 0 for its checksum.
     pub fn new(icmp_type: Icmpv6Type) -> Icmpv6Header
@@ -153,7 +156,7 @@ impl Icmpv6Header {
     pub fn header_len(&self) -> usize
         ensures value { result ≡ 8 }
     {
-        Icmpv6Header::LEN
+        Icmpv6Header::MIN_LEN
     }
 
     /// The 8 bytes of the header. Those that the type does not use are 0.
@@ -171,7 +174,9 @@ impl Icmpv6Header {
     }
 }
 
-const _: () = prove!(Icmpv6Header::LEN == 8);
+const _: () = prove!(Icmpv6Header::MIN_LEN == 8);
+
+const _: () = prove!(Icmpv6Header::MAX_LEN == 8);
 
 // The header of 8 bytes.
 pub(crate) fn header_of(bytes: &[u8]) -> Icmpv6Header
@@ -190,7 +195,7 @@ pub(crate) fn too_short(len: usize) -> LenError
     ensures value { result ≡ too_short_error layer.Icmpv6 8 len }
 {
     LenError {
-        required_len: Icmpv6Header::LEN,
+        required_len: Icmpv6Header::MIN_LEN,
         len,
         len_source: LenSource::Slice,
         layer: Layer::Icmpv6,

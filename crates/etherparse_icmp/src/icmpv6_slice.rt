@@ -59,7 +59,7 @@ impl<'a> Icmpv6Slice<'a> {
         ensures only { (other : Result (List ℕ) Refused) → ViewsIcmpv6 slice.now other →
             other ≡ result_map_both (λ view. view.slice.now) (λ e. e) result }
     {
-        if slice.len() < Icmpv6Header::LEN {
+        if slice.len() < Icmpv6Header::MIN_LEN {
             return Err(too_short(slice.len()));
         }
         Ok(Icmpv6Slice { slice })
@@ -79,14 +79,14 @@ impl<'a> Icmpv6Slice<'a> {
         ensures only { (other : Icmpv6Reading) → ReadsIcmpv6 self.now.slice.now other →
             other ≡ Ok (result, drop 8 self.now.slice.now) }
     {
-        header_of(&self.slice[..Icmpv6Header::LEN])
+        header_of(&self.slice[..Icmpv6Header::MIN_LEN])
     }
 
     /// The length of the header, in bytes: 8.
     pub fn header_len(&self) -> usize
         ensures value { result ≡ 8 }
     {
-        Icmpv6Header::LEN
+        Icmpv6Header::MIN_LEN
     }
 
     /// What the message is, by its header.
@@ -141,6 +141,6 @@ impl<'a> Icmpv6Slice<'a> {
     pub fn payload(&self) -> &'a [u8]
         ensures value { result.now ≡ drop 8 self.now.slice.now }
     {
-        &self.slice[Icmpv6Header::LEN..]
+        &self.slice[Icmpv6Header::MIN_LEN..]
     }
 }

@@ -67,6 +67,7 @@ impl<R: Source> Input<R> {
     pub fn fill<W: Sink>(&mut self, _output: &Output<W>) -> Result<bool, Failure>
         requires room { length (unread self.old) < ROOM }
         requires written { pending _output.now ≡ [] }
+        requires reads_on { R.goes_on self.old.source }
         ensures takes { Takes R.remaining self.old self.new [] }
         ensures more { IfOk result (λ more. IsTrue more → self.old.count < self.new.count) }
         ensures end { IfOk result (λ more. IsFalse more → IsAtEnd (R.remaining self.new.source)) }
@@ -74,6 +75,7 @@ impl<R: Source> Input<R> {
         ensures failed { IfErr result (λ e. (e ≡ Failure.Read) × CannotRead R.has_failed self.new) }
         ensures unread { OnErr result (unread self.new ≡ unread self.old) }
         ensures unfailed { OnOk result (NoReadFails R.has_failed self.old self.new) }
+        ensures goes_on { IfOk result (λ more. IsTrue more → R.goes_on self.new.source) }
     {
         let start = self.len;
         let left = u64::MAX - self.count;

@@ -62,6 +62,7 @@ fn skip<R: Source, W: Sink>(
     keeps: bool,
     output: &mut Output<W>,
 ) -> Result<(usize, [u8; 4]), Failure>
+    requires reads_on { R.goes_on input.old.source }
     ensures skips { IfOk result (λ x. Skips R.remaining W.contents keeps len input.old input.new
         output.old output.new x.0 x.1) }
     ensures end { IfOk result (λ x. x.0 < len → IsAtEnd (R.remaining input.new.source)) }
@@ -72,6 +73,7 @@ fn skip<R: Source, W: Sink>(
     ensures unfailed_else { IfErr result (λ e. e ≢ Failure.Read →
         NoReadFails R.has_failed input.old input.new) }
     ensures unfailed_writes { OnOk result (NoWriteFails W.has_failed output.old output.new) }
+    ensures goes_on { IfOk result (λ x. x.0 ≡ len → R.goes_on input.new.source) }
 {
     let mut left = len;
     let mut last = [0; 4];
@@ -414,6 +416,7 @@ impl Request {
         requires refused { RefusesBlock place.old.capture (unread input.old)
             (BlockError.CutOff cut) }
         requires long { max_len place.old.capture < cut.required_len }
+        requires reads_on { R.goes_on input.old.source }
         ensures turns { IfOk result (λ turn. Turns R.remaining W.contents self.now place.old
             place.new turn input.old input.new output.old output.new) }
         ensures failed { IfErr result (λ e. Breaks R.remaining W.contents self.now
@@ -422,6 +425,7 @@ impl Request {
         ensures unfailed_else { IfErr result (λ e. e ≢ Failure.Read →
             NoReadFails R.has_failed input.old input.new) }
         ensures unfailed_writes { OnOk result (NoWriteFails W.has_failed output.old output.new) }
+        ensures goes_on { IfOk result (λ turn. turn ≡ Turn.GoesOn → R.goes_on input.new.source) }
     {
         let front = match place.capture.block_front(input.unread()) {
             Ok(front) => front,
@@ -457,6 +461,7 @@ impl Request {
         output: &mut Output<W>,
     ) -> Result<Turn, Failure>
         requires stops { Stops self.now place.old (unread input.old) stop }
+        requires reads_on { R.goes_on input.old.source }
         ensures turns { IfOk result (λ turn. Turns R.remaining W.contents self.now place.old
             place.new turn input.old input.new output.old output.new) }
         ensures failed { IfErr result (λ e. Breaks R.remaining W.contents self.now
@@ -465,6 +470,7 @@ impl Request {
         ensures unfailed_else { IfErr result (λ e. e ≢ Failure.Read →
             NoReadFails R.has_failed input.old input.new) }
         ensures unfailed_writes { OnOk result (NoWriteFails W.has_failed output.old output.new) }
+        ensures goes_on { IfOk result (λ turn. turn ≡ Turn.GoesOn → R.goes_on input.new.source) }
     {
         let end = match stop {
             Stop::Enough => return Ok(Turn::Ends(None)),
@@ -494,6 +500,7 @@ impl Request {
         input: &mut Input<R>,
         output: &mut Output<W>,
     ) -> Result<Option<End>, Failure>
+        requires reads_on { R.goes_on input.old.source }
         ensures ends { IfOk result (λ end. Ends R.remaining W.contents self.now place.old
             place.new.totals end input.old input.new output.old output.new) }
         ensures failed { IfErr result (λ e. Breaks R.remaining W.contents self.now

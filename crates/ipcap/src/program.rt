@@ -202,6 +202,7 @@ fn list_anew<R: Source, W: Sink, E: Sink>(
     errors: &mut Output<E>,
 ) -> io::Result<u8>
     requires fresh { (pending output.old ≡ []) × (pending errors.old ≡ []) }
+    requires reads_on { R.goes_on input.old.source }
     ensures runs { IfOk result (RunsAnew R.remaining W.contents E.contents R.has_failed
         W.has_failed E.has_failed R.why_failed W.why_failed (E.is_text Error) request.now
         reassembles input.old input.new output.old output.new errors.old errors.new) }
@@ -228,6 +229,7 @@ fn list<R: Source, W: Sink, E: Sink>(
     errors: &mut Output<E>,
 ) -> u8
     requires fresh { (pending output.old ≡ []) × (pending errors.old ≡ []) }
+    requires reads_on { R.goes_on input.old.source }
     ensures runs { Runs R.remaining W.contents E.contents R.has_failed W.has_failed E.has_failed
         R.why_failed W.why_failed (E.is_text Error) request.now memory.entry
         input.old input.new output.old output.new errors.old errors.new result }

@@ -49,6 +49,7 @@ pub fn run<R: Source, W: Sink, E: Sink>(
     errors: &mut Output<E>,
 ) -> Result<Status, Failure>
     requires fresh { (pending output.old ≡ []) × (pending errors.old ≡ []) }
+    requires reads_on { R.goes_on input.old.source }
     ensures output { IfOk result (λ status. IfSome (unlisted R.remaining input.old) (λ bytes.
         Writes W.contents E.contents E.has_failed (IsOutcome request.now memory.entry bytes) status
         output.old output.new errors.old errors.new)) }
@@ -112,12 +113,14 @@ fn fill_to_front<R: Source, W: Sink>(
     output: &Output<W>,
 ) -> Result<(), Failure>
     requires written { pending output.now ≡ [] }
+    requires reads_on { R.goes_on input.old.source }
     ensures takes { Takes R.remaining input.old input.new [] }
     ensures enough { OnOk result ((¬ LacksFront (unread input.new))
         ⊎ IsAtEnd (R.remaining input.new.source)) }
     ensures failed { IfErr result (λ e. (e ≡ Failure.Read) × CannotRead R.has_failed input.new
         × LacksFront (unread input.new)) }
     ensures unfailed { OnOk result (NoReadFails R.has_failed input.old input.new) }
+    ensures goes_on { OnOk result ((¬ LacksFront (unread input.new)) → R.goes_on input.new.source) }
 {
     'reads: while lacks_front(input.unread()) {
         if !input.fill(output)? {
@@ -146,6 +149,7 @@ fn list_blocks<R: Source, W: Sink, E: Sink>(
     errors: &mut Output<E>,
 ) -> Result<Status, Failure>
     requires fresh { pending errors.old ≡ [] }
+    requires reads_on { R.goes_on input.old.source }
     ensures output { IfOk result (λ status. IfSome (unlisted R.remaining input.old) (λ bytes.
         WritesListing W.contents E.contents E.has_failed request.now memory.entry capture bytes status
         output.old output.new errors.old errors.new)) }

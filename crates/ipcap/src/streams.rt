@@ -41,13 +41,19 @@ pub trait Source {
     // Why the last read that failed did so.
     ghost why_failed: { Self → Option Error };
 
+    // There may be more to read. A run knows it of a source that was just opened, and after a read
+    // that gave bytes; so it reads no more after the end, or after a read that failed.
+    ghost goes_on: { Self → Type 0 };
+
     /// Reads once, as `Read::read` does.
     fn read(&mut self, buf: &mut [u8]) -> io::Result<usize>
+        requires reads_on { goes_on self.old }
         ensures bound { ReadsAtMost result buf.new }
         ensures bytes { ReadConsumes (remaining self.old) (remaining self.new) result buf.new }
         ensures failed { OnErr result (has_failed self.new) }
         ensures why { IfErr result (λ e. why_failed self.new ≡ Some e) }
-        ensures unfailed { OnOk result (has_failed self.new → has_failed self.old) };
+        ensures unfailed { OnOk result (has_failed self.new → has_failed self.old) }
+        ensures goes_on { IfOk result (λ n. 0 < n → goes_on self.new) };
 
     /// Why the last read that failed did so; `None` if none has failed.
     fn failure(&self) -> Option<io::Error>
@@ -119,6 +125,8 @@ impl<R: Read> Source for Watched<R> {
     ghost has_failed = { λ watched. IsSome watched.failure };
 
     ghost why_failed = { λ watched. watched.failure };
+
+    ghost goes_on = { λ _. Unit {0} };
 
     fn read(&mut self, buf: &mut [u8]) -> io::Result<usize> {
         match self.inner.read(buf) {

@@ -84,7 +84,8 @@ pub trait System {
     fn open(&mut self, name: Option<&str>) -> io::Result<Self::Reader>
         requires first { asked self.old ≡ Asked.Nothing }
         ensures asked { asked self.new ≡ Asked.Input }
-        ensures opens { opens (text_of name.entry) result };
+        ensures opens { opens (text_of name.entry) result }
+        ensures goes_on { IfOk result Self.Reader.goes_on };
 
     /// Makes the file with this name, or empties it, as `Writer::create` does.
     fn create(&mut self, name: Option<&str>) -> io::Result<Self::Writer>

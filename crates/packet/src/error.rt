@@ -9,6 +9,7 @@ use etherparse::LenSource;
 use etherparse::err::LenError;
 use etherparse_transport::TcpError;
 use packet_parts::ip_slice::IpSliceError;
+use std::error::Error;
 use std::fmt;
 
 /// Why a frame is not read to the transport header. Each `layer_start_offset` counts from the start
@@ -46,6 +47,8 @@ impl fmt::Display for SliceError {
         }
     }
 }
+
+impl Error for SliceError {}
 
 // The error of a packet that starts this many bytes further on.
 #[cold]

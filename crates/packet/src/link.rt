@@ -13,6 +13,7 @@ use etherparse_link::{
 };
 use packet_links::framing::Framing;
 use packet_links::header::{Carried, Header};
+use std::error::Error;
 use std::fmt;
 
 /// How frames begin. A capture names it by a number of the registry of link types of tcpdump.org.
@@ -82,6 +83,8 @@ impl fmt::Display for LinkError {
         )
     }
 }
+
+impl Error for LinkError {}
 
 impl LinkType {
     ghost use Rattle.std.specs.Prelude.{◌≡◌};

@@ -19,7 +19,7 @@ pub struct LinkLayers<'a> {
     pub ether_type: Option<EtherType>,
     /// All bytes after these.
     pub payload: &'a [u8],
-    /// That the frame ends within a tag, which `payload` begins with.
+    /// Why there are no more tags, if the frame ends within one: `payload` is what there is of it.
     pub stop: Option<LenError>,
 }
 

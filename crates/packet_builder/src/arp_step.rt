@@ -25,7 +25,7 @@ impl ArpStep {
     ghost use Rattle.packet_builder.specs.Writing.{WritesFront};
 
     /// The length of the packet, in bytes. No padding is counted or written: a frame of Ethernet has
-    /// at least 60 bytes on the wire.
+    /// at least 60 bytes, without its check sequence.
     pub fn size(&self) -> usize
         ensures value { result ≡ arp_frame_len self.now }
     {

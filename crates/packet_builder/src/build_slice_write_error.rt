@@ -4,6 +4,7 @@ ghost use Rattle.std.specs.Prelude.{Some};
 ghost use Rattle.packet_builder.specs.ErrorText.{text_in_any_style, write_error_text};
 
 use etherparse::err::ValueTooBigError;
+use std::error::Error;
 use std::fmt;
 
 /// Why a packet is not written into a slice.
@@ -36,3 +37,5 @@ impl fmt::Display for BuildSliceWriteError {
         }
     }
 }
+
+impl Error for BuildSliceWriteError {}

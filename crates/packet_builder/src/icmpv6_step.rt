@@ -33,7 +33,7 @@ impl Icmpv6Step {
         requires fits { payload_size < 2 ^ 63 }
         ensures value { result ≡ headers_len self.now.headers + (8 + payload_size) }
     {
-        self.headers.len() + Icmpv6Header::LEN + payload_size
+        self.headers.len() + Icmpv6Header::MIN_LEN + payload_size
     }
 
     /// Writes the packet with this payload at the front of a slice. Returns its length in bytes. The
@@ -67,7 +67,7 @@ impl Icmpv6Step {
         };
         let at = headers.put(
             IpNumber::IPV6_ICMP,
-            Icmpv6Header::LEN + payload.len(),
+            Icmpv6Header::MIN_LEN + payload.len(),
             slice,
         )?;
         let icmp = header_between(source, destination, icmp_type, payload);

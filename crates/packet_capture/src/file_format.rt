@@ -14,7 +14,7 @@ pub enum FileFormat {
     /// The classic format with longer record heads, by Alexey Kuznetzov's changes to libpcap:
     /// a1b2cd34 in either byte order.
     ModifiedPcap,
-    /// The format of snoop (RFC 1761): the text `snoop`.
+    /// The format of snoop (RFC 1761): `snoo`, the first four bytes of the text `snoop`.
     Snoop,
     /// A file compressed by gzip (RFC 1952): bytes 1f 8b.
     Gzip,

@@ -14,6 +14,7 @@ use crate::filter::Filter;
 use crate::machine::Machine;
 use crate::text::{first_word, token_of};
 use crate::token::Token;
+use std::error::Error;
 use std::fmt;
 
 /// Why a text is no filter. Places are where a word begins, in bytes from the start of the text:
@@ -105,6 +106,8 @@ impl fmt::Display for FilterError {
         }
     }
 }
+
+impl Error for FilterError {}
 
 // Both readings of three expressions with two operators between them, of which this is the second.
 #[derive(Clone, Copy)]

@@ -23,6 +23,7 @@ use crate::original_source::original_source_ipv6;
 use etherparse::err::{Layer, LenError, ipv4, ipv6};
 use etherparse::{IpNumber, Ipv4HeaderSlice, Ipv6Header, Ipv6HeaderSlice, LenSource};
 use etherparse_net::Ipv6FragmentHeader;
+use std::error::Error;
 use std::fmt;
 use std::net::{IpAddr, Ipv4Addr, Ipv6Addr};
 
@@ -101,6 +102,8 @@ impl fmt::Display for IpSliceError {
         }
     }
 }
+
+impl Error for IpSliceError {}
 
 /// The parts of an IP packet as far as they are there.
 #[derive(Clone, Debug, PartialEq, Eq, Drop)]

@@ -19,6 +19,7 @@ use etherparse::IpNumber;
 use etherparse::checksum::Sum16BitWords;
 use etherparse_transport::{TcpHeaderSlice, UdpHeader};
 use packet_parts::checksum::{ipv4_pseudo_header, ipv6_pseudo_header};
+use std::error::Error;
 use std::fmt;
 
 /// Why a segment gets no checksum.
@@ -54,6 +55,8 @@ impl fmt::Display for ChecksumError {
         })
     }
 }
+
+impl Error for ChecksumError {}
 
 /// The checksum that a segment should have over IPv4, whatever it has: the complement of the
 /// ones-complement sum of the pseudo-header and the segment, with 0 in the place of the checksum

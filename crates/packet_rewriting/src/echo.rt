@@ -48,7 +48,7 @@ pub fn icmpv4_reply(message: &mut [u8]) -> bool
 ///
 /// `false`, with the message unchanged, if it is not an echo request: it has fewer than 8 bytes, or
 /// 2^32 or more, another type, or a code other than 0. The addresses are those of the reply: if the
-/// request was sent to a multicast address, the reply's source is another address.
+/// request was sent to a multicast or an anycast address, the reply's source is another address.
 ///
 /// # Example
 ///

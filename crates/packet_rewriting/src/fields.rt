@@ -43,6 +43,7 @@ use etherparse_transport::{TcpHeaderSlice, UdpHeader};
 use packet_parts::final_destination::{final_destination_ipv4, final_destination_ipv6};
 use packet_parts::ip_slice::{IpHeaderSlice, IpSlice, IpSliceError};
 use packet_parts::original_source::original_source_ipv6;
+use std::error::Error;
 use std::fmt;
 
 /// Why a packet is not rewritten.
@@ -83,6 +84,8 @@ impl fmt::Display for RewriteError {
         })
     }
 }
+
+impl Error for RewriteError {}
 
 /// How far the change of an address reaches in a packet.
 #[derive(Clone, Copy, Debug, PartialEq, Eq)]

@@ -3,7 +3,7 @@
 //! Of each twelve, four go into four lanes. Each lane has the total of its words and, separately,
 //! the sum of their high halves, from which the sum of the low halves is recovered at the end. The
 //! other eight go into eight sums: the carry out of each goes into the next, and the carry out of
-//! the last is counted. The 32-bit sum of a slice is this one, halved.
+//! the last is counted. The 32-bit sum of a slice is the sum of the two halves of this one.
 
 ghost use Rattle.std.specs.Prelude.{List, ℕ, drop, ◌≡◌, ◌<◌, ◌≤◌, ◌+◌, ◌-◌, ◌*◌, ◌%◌, ◌^◌, length};
 ghost use Rattle.std.specs.Int.{from_bool};

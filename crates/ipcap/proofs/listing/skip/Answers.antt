@@ -50,7 +50,7 @@ lacks_all remaining contents read_failed write_failed keeps wanted e old new old
 }
 
 pub turns-init : goal.turns-init
-turns-init g c = record { within = omega arith; taken = []; takes = takes_nothing _ _; many = omega arith; last = refl; prints = rw (kept_nothing c.args.keeps) (prints_nothing _ _); unfailed = λ x. x; unfailed_writes = λ x. x }
+turns-init g c = record { within = omega arith; taken = []; takes = takes_nothing _ _; many = omega arith; last = refl; prints = rw (kept_nothing c.args.keeps) (prints_nothing _ _); unfailed = λ x. x; goes_on = c.requires.reads_on; unfailed_writes = λ x. x }
 
 pub turns-preserved : goal.turns-preserved
 turns-preserved g c =
@@ -64,6 +64,7 @@ turns-preserved g c =
       prints = rw (kept_both c.args.keeps was.taken (take c.min-passed.result (unread c.turns.input)))
           (prints_then _ _ _ _ _ (prints_both _ _ _ _ _ _ was.prints (rw c.unread-bytes.ensures.value at c.in_ok-copy_if.ensures.prints)) c.in_ok-hand_over.ensures.kept);
       unfailed = λ x. was.unfailed (subst g.R.Source.has_failed c.pass.ensures.source (c.in_ok-fill.ensures.unfailed x));
+      goes_on = grind arith;
       unfailed_writes = λ x. was.unfailed_writes (c.in_ok-copy_if.ensures.unfailed_writes (c.in_ok-hand_over.ensures.unfailed_writes x));
     }
 

@@ -12,6 +12,7 @@ invariant-turns g l = record {
   last : l.last ≡ last_four taken;
   prints : Prints g.W.Sink.contents l.fn.output l.output (kept_if l.keeps taken);
   unfailed : NoReadFails g.R.Source.has_failed l.fn.input l.input;
+  goes_on : g.R.Source.goes_on l.input.source;
   unfailed_writes : NoWriteFails g.W.Sink.has_failed l.fn.output l.output;
 }
 

@@ -34,7 +34,7 @@ pub returns-clause-unread : goal.returns-clause-unread
 returns-clause-unread g c = grind (arith, common_steps)
 
 pub returns-in_default : goal.returns-in_default
-returns-in_default g c = record { end = grind (arith, common_steps); failed = grind (arith, common_steps); more = grind (arith, common_steps); same = grind (arith, common_steps); takes = record { got = []; reads = grind (arith, common_steps); takes = grind (arith, common_steps) }; unfailed = grind (arith, common_steps); unread = grind (arith, common_steps) }
+returns-in_default g c = record { end = grind (arith, common_steps); failed = grind (arith, common_steps); goes_on = grind (arith, common_steps); more = grind (arith, common_steps); same = grind (arith, common_steps); takes = record { got = []; reads = grind (arith, common_steps); takes = grind (arith, common_steps) }; unfailed = grind (arith, common_steps); unread = grind (arith, common_steps) }
 
 pub returns-then-most-eq0 : goal.returns-then-most-eq0
-returns-then-most-eq0 g c = record { end = grind (arith, common_steps); failed = grind (arith, common_steps); more = grind (arith, common_steps); same = grind (arith, common_steps); takes = grind (arith, common_steps); unfailed = grind (arith, common_steps); unread = grind (arith, common_steps) }
+returns-then-most-eq0 g c = record { end = grind (arith, common_steps); failed = grind (arith, common_steps); goes_on = grind (arith, common_steps); more = grind (arith, common_steps); same = grind (arith, common_steps); takes = grind (arith, common_steps); unfailed = grind (arith, common_steps); unread = grind (arith, common_steps) }

@@ -22,10 +22,10 @@ returns-in-Refused-clause-turns g c =
 pub fill-requires : goal.fill-requires
 fill-requires g c = elim c.match-stop.branch [
   | in-CutOff+else-is_long w ↦ (let stops = rw w.in-CutOff.is at c.requires.stops in elim w.else-is_long.branch [
-    | else-is_long-via-then-is_long+else-unread-front_len v ↦ record { room = omega (arith, v.if-unread-front_len.false, ap length v.unread.ensures.value, v.front_len.ensures.value, front_room c.args.place.now.capture); written = c.in_ok-hand_over.ensures.all }
-    | else-is_long-via-else-is_long v ↦ record { room = omega (arith, v.if-is_long.false, w.max_len.ensures.value, most_room c.args.place.now.capture, cut_off_short _ _ _ stops.1); written = c.in_ok-hand_over.ensures.all }
+    | else-is_long-via-then-is_long+else-unread-front_len v ↦ record { room = omega (arith, v.if-unread-front_len.false, ap length v.unread.ensures.value, v.front_len.ensures.value, front_room c.args.place.now.capture); written = c.in_ok-hand_over.ensures.all; reads_on = c.requires.reads_on }
+    | else-is_long-via-else-is_long v ↦ record { room = omega (arith, v.if-is_long.false, w.max_len.ensures.value, most_room c.args.place.now.capture, cut_off_short _ _ _ stops.1); written = c.in_ok-hand_over.ensures.all; reads_on = c.requires.reads_on }
   ])
-  | in-Empty w ↦ (let stops = rw w.in-Empty.is at c.requires.stops in record { room = omega (arith, ap length stops.1); written = c.in_ok-hand_over.ensures.all })
+  | in-Empty w ↦ (let stops = rw w.in-Empty.is at c.requires.stops in record { room = omega (arith, ap length stops.1); written = c.in_ok-hand_over.ensures.all; reads_on = c.requires.reads_on })
 ]
 
 pub returns-in_err-hand_over-clause-failed : goal.returns-in_err-hand_over-clause-failed

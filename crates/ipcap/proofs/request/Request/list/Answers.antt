@@ -5,7 +5,7 @@ use Rattle.ipcap.specs.declared.listing.Turn.TheVariants as turn
 use Rattle.ipcap.proofs.request.Request.list.Goals as goal
 
 pub turns-init : goal.turns-init
-turns-init g c = record { taken = []; takes = takes_nothing _ _; tells = tells_nothing _ _ _ _; unfailed = λ x. x; unfailed_writes = λ x. x }
+turns-init g c = record { taken = []; takes = takes_nothing _ _; tells = tells_nothing _ _ _ _; unfailed = λ x. x; goes_on = c.requires.reads_on; unfailed_writes = λ x. x }
 
 pub turns-preserved : goal.turns-preserved
 turns-preserved g c =
@@ -18,6 +18,7 @@ turns-preserved g c =
       takes = takes_both _ _ _ _ _ _ takes k.takes;
       tells = tells_both _ _ _ _ _ _ _ _ _ _ tells k.tells;
       unfailed = λ x. was.unfailed (subst g.R.Source.has_failed c.pass.ensures.source (c.in_ok-end.ensures.unfailed x));
+      goes_on = c.in_ok-end.ensures.goes_on c.in_default.is;
       unfailed_writes = λ x. was.unfailed_writes (c.in_ok-rest.ensures.unfailed_writes (c.in_ok-end.ensures.unfailed_writes x));
     }
 

@@ -9,6 +9,7 @@ invariant-turns g l = record {
   takes : Takes g.R.Source.remaining l.fn.input l.input taken;
   tells : Tells g.W.Sink.contents l.self l.fn.place l.place taken l.fn.output l.output;
   unfailed : NoReadFails g.R.Source.has_failed l.fn.input l.input;
+  goes_on : g.R.Source.goes_on l.input.source;
   unfailed_writes : NoWriteFails g.W.Sink.has_failed l.fn.output l.output;
 }
 
