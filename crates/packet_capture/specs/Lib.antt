@@ -1,5 +1,6 @@
 pub mod Any
 pub mod Capture
+pub mod ErrorText
 pub mod FileFormat
 pub mod Pcapng
 pub mod Skip

@@ -1,12 +1,17 @@
 //! A reader of captures: the records of a file in the classic format of libpcap
 //! (draft-ietf-opsawg-pcap sections 4 and 5).
 
-ghost use Rattle.std.specs.Prelude.{◌≡◌, ◌+◌, ◌*◌, ◌≤◌, IfOk, IfSome, length};
+ghost use Rattle.std.specs.Prelude.{◌≡◌, ◌+◌, ◌*◌, ◌≤◌, IfOk, IfSome, Some, length};
 ghost use Rattle.std.specs.Int.{w16, w32, w64};
 ghost use Rattle.etherparse.specs.Reading.{found_and_rest};
 ghost use Rattle.packet_capture.specs.Capture.{FileReading, ReadsFileHeader, ReadsRecord, RecordReading};
 ghost use Rattle.packet_capture.specs.Capture.{nanoseconds_in, number_in, record_and_rest, record_head};
 ghost use Rattle.packet_capture.specs.Capture.{told_by};
+ghost use Rattle.packet_capture.specs.ErrorText.{capture_error_text, cut_off_text};
+
+use crate::word::Word;
+use std::error::Error;
+use std::fmt;
 
 /// The byte order of all numbers in a file: that of the machine that wrote it.
 #[derive(Clone, Copy, Debug, PartialEq, Eq)]
@@ -58,6 +63,21 @@ pub struct CutOff {
     pub len: usize,
 }
 
+impl fmt::Display for CutOff {
+    ghost output = { λ error. Some (cut_off_text error) };
+
+    #[tactic(auto, unfolding(crate::specs::ErrorText::cut_off_text))]
+    fn fmt<W: fmt::Write>(&self, f: &mut fmt::Formatter<W>) -> fmt::Result {
+        let (required_len, len) = (self.required_len, self.len);
+        write!(
+            f,
+            "Capture Error: {required_len} byte(s) are needed, and there are {len}."
+        )
+    }
+}
+
+impl Error for CutOff {}
+
 /// Why a slice does not begin with the header of a capture file.
 #[derive(Clone, Copy, Debug, PartialEq, Eq)]
 pub enum CaptureError {
@@ -68,6 +88,26 @@ pub enum CaptureError {
     /// The version, which is not 2.4: major in bytes 4 and 5, minor in bytes 6 and 7.
     Version { major: u16, minor: u16 },
 }
+
+impl fmt::Display for CaptureError {
+    ghost output = { λ error. Some (capture_error_text error) };
+
+    #[tactic(auto, unfolding(crate::specs::ErrorText::capture_error_text))]
+    fn fmt<W: fmt::Write>(&self, f: &mut fmt::Formatter<W>) -> fmt::Result {
+        match *self {
+            CaptureError::CutOff(e) => fmt::Display::fmt(&e, f),
+            CaptureError::Magic(magic) => {
+                let magic = Word(magic);
+                write!(f, "Capture Error: The magic number is 0x{magic}.")
+            }
+            CaptureError::Version { major, minor } => {
+                write!(f, "Capture Error: The version is {major}.{minor}.")
+            }
+        }
+    }
+}
+
+impl Error for CaptureError {}
 
 /// The head of a record, of 16 bytes.
 #[derive(Clone, Copy, Debug, PartialEq, Eq)]

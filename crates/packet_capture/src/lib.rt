@@ -7,3 +7,4 @@ pub mod file_format;
 mod laws;
 pub mod pcapng;
 pub mod skip;
+mod word;

@@ -1,5 +1,6 @@
 pub mod Arrivals
 pub mod Ecn
+pub mod ErrorText
 pub mod Fragment
 pub mod HeaderChain
 pub mod Headers

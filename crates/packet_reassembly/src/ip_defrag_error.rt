@@ -1,6 +1,11 @@
 //! Why a fragment is refused.
 
+ghost use Rattle.std.specs.Prelude.{Some};
+ghost use Rattle.packet_reassembly.specs.ErrorText.{ip_defrag_error_text};
+
 use etherparse::IpFragOffset;
+use std::error::Error;
+use std::fmt;
 
 /// Why a fragment is refused: no datagram can have it. It is then as if it had not come.
 #[derive(Clone, Copy, Debug, PartialEq, Eq)]
@@ -27,3 +32,42 @@ pub enum IpDefragError {
         max: u16,
     },
 }
+
+impl fmt::Display for IpDefragError {
+    ghost output = { λ error. Some (ip_defrag_error_text error) };
+
+    fn fmt<W: fmt::Write>(&self, f: &mut fmt::Formatter<W>) -> fmt::Result {
+        match *self {
+            IpDefragError::Empty { offset } => {
+                let offset = offset.value();
+                write!(
+                    f,
+                    "IP Fragment Error: The fragment at offset {offset} has no bytes."
+                )
+            }
+            IpDefragError::UnalignedFragmentPayloadLen {
+                offset,
+                payload_len,
+            } => {
+                let offset = offset.value();
+                write!(
+                    f,
+                    "IP Fragment Error: More fragments follow the one at offset {offset}, and its {payload_len} bytes are no multiple of 8."
+                )
+            }
+            IpDefragError::SegmentTooBig {
+                offset,
+                payload_len,
+                max,
+            } => {
+                let offset = offset.value();
+                write!(
+                    f,
+                    "IP Fragment Error: The fragment at offset {offset} has {payload_len} bytes and ends past byte {max}."
+                )
+            }
+        }
+    }
+}
+
+impl Error for IpDefragError {}

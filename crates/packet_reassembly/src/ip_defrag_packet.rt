@@ -1,7 +1,8 @@
 //! Packets that are added to a pool, and packets that are taken from it.
 
 ghost use Rattle.std.specs.Prelude.{ℕ, ◌≡◌, ◌<◌, IfSome, IsFalse, IsTrue, List, Option, length};
-ghost use Rattle.std.specs.Prelude.{option_map};
+ghost use Rattle.std.specs.Prelude.{Some, option_map};
+ghost use Rattle.packet_reassembly.specs.ErrorText.{ip_defrag_packet_error_text};
 ghost use Rattle.packet_reassembly.specs.HeaderChain.{HasWholeChain, LacksChain};
 ghost use Rattle.packet_reassembly.specs.IpFragment.{IsNoFragment};
 ghost use Rattle.packet_reassembly.specs.PacketAdded.{HasShortHeaders, IsFirstOfIpv6, headers_of};
@@ -19,6 +20,8 @@ use crate::ip_frag_id::{IpFragId, IpFragVersionSpecId};
 use crate::ip_fragment_slice::{IpFragmentSlice, ip_fragment};
 use etherparse::err::ValueTooBigError;
 use packet_parts::ip_slice::IpSliceError;
+use std::error::Error;
+use std::fmt;
 
 /// Why a packet is not added to a pool.
 #[derive(Debug, Drop)]
@@ -39,6 +42,26 @@ pub enum IpDefragPacketError {
     /// It is a fragment that no datagram can have.
     Fragment(IpDefragError),
 }
+
+impl fmt::Display for IpDefragPacketError {
+    ghost output = { λ error. Some (ip_defrag_packet_error_text error) };
+
+    fn fmt<W: fmt::Write>(&self, f: &mut fmt::Formatter<W>) -> fmt::Result {
+        match self {
+            IpDefragPacketError::Packet(e) => fmt::Display::fmt(e, f),
+            IpDefragPacketError::HeaderChain => f.write_str(
+                "IPv6 Fragment Error: The first fragment lacks a part of the header chain.",
+            ),
+            &IpDefragPacketError::HeadersTooLong { len } => write!(
+                f,
+                "IP Fragment Error: The headers of the first fragment have {len} bytes, and there is room for 1280."
+            ),
+            IpDefragPacketError::Fragment(e) => fmt::Display::fmt(e, f),
+        }
+    }
+}
+
+impl Error for IpDefragPacketError {}
 
 impl<'a, 'b> IpDefragPool<'a, 'b> {
     ghost use Rattle.std.specs.Prelude.{ℕ, ◌≡◌, ◌<◌, ◌≤◌, IfErr, IfNone, IfOk, IfSome, IsSome, List};

@@ -1,7 +1,7 @@
 //! The blocks of a pcapng file (draft-ietf-opsawg-pcapng sections 3.1 and 4.1).
 
 ghost use Rattle.std.specs.Prelude.{◌≡◌, ◌≢◌, ◌%◌, ◌+◌, ◌≤◌, ◌↔◌, IfErr, IfNone, IfOk};
-ghost use Rattle.std.specs.Prelude.{IfSome, IsTrue, OnErr, OnOk};
+ghost use Rattle.std.specs.Prelude.{IfSome, IsTrue, OnErr, OnOk, Some};
 ghost use Rattle.std.specs.Prelude.{[], length};
 ghost use Rattle.std.specs.Int.{w32};
 ghost use Rattle.packet_capture.specs.Capture.{number_in};
@@ -13,11 +13,15 @@ ghost use Rattle.packet_capture.specs.Pcapng.Blocks.{block_reading, block_type_o
 ghost use Rattle.packet_capture.specs.Pcapng.Packets.{PacketReading, ReadsPacket, data_start};
 ghost use Rattle.packet_capture.specs.Pcapng.Blocks.{front_len, least_len, major, minor, order_of};
 ghost use Rattle.packet_capture.specs.Pcapng.Blocks.{order_told_by};
+ghost use Rattle.packet_capture.specs.ErrorText.{block_error_text};
 
 use crate::capture::{ByteOrder, CutOff};
 use crate::pcapng::interfaces::Interface;
 use crate::pcapng::packets::{PacketHead, PacketType};
+use crate::word::Word;
 use arrayvec::ArrayVec;
+use std::error::Error;
+use std::fmt;
 
 /// What the blocks so far say about the next one: the state of a reader between two blocks.
 #[derive(Debug, PartialEq, Drop)]
@@ -134,6 +138,60 @@ pub enum BlockError {
         room: u32,
     },
 }
+
+impl fmt::Display for BlockError {
+    ghost output = { λ error. Some (block_error_text error) };
+
+    #[tactic(auto, unfolding(crate::specs::ErrorText::block_error_text))]
+    fn fmt<W: fmt::Write>(&self, f: &mut fmt::Formatter<W>) -> fmt::Result {
+        match *self {
+            BlockError::CutOff(e) => fmt::Display::fmt(&e, f),
+            BlockError::Magic(magic) => {
+                let magic = Word(magic);
+                write!(
+                    f,
+                    "Capture Error: The block begins with 0x{magic}, and no section has begun."
+                )
+            }
+            BlockError::ByteOrderMagic(magic) => {
+                let magic = Word(magic);
+                write!(f, "Capture Error: The byte-order magic is 0x{magic}.")
+            }
+            BlockError::BlockLength { total_len, .. } => write!(
+                f,
+                "Capture Error: The block has the length {total_len}."
+            ),
+            BlockError::Lengths { front, back } => write!(
+                f,
+                "Capture Error: The block has the lengths {front} and {back}."
+            ),
+            BlockError::Version { major, minor } => {
+                write!(f, "Capture Error: The version is {major}.{minor}.")
+            }
+            BlockError::TooManyInterfaces => {
+                f.write_str("Capture Error: The section has 256 interfaces already.")
+            }
+            BlockError::OptionLength { code, len, place } => write!(
+                f,
+                "Capture Error: The option {code} at byte {place} of the block has {len} byte(s)."
+            ),
+            BlockError::Resolution(value) => write!(
+                f,
+                "Capture Error: The unit of time is too small (if_tsresol {value})."
+            ),
+            BlockError::Interface { id, count } => write!(
+                f,
+                "Capture Error: The packet is of interface {id}, and there are {count}."
+            ),
+            BlockError::CapturedLength { captured_len, room } => write!(
+                f,
+                "Capture Error: The packet has {captured_len} byte(s), and the block room for {room}."
+            ),
+        }
+    }
+}
+
+impl Error for BlockError {}
 
 impl Section {
     /// The state before the first block: no section has begun.
