@@ -19,7 +19,7 @@ import sys
 
 PROGRAM = pathlib.Path(__file__).resolve().parents[2] / 'crates/ipcap/out/ipcap'
 FIELDS = ('frame.time_epoch', 'frame.encap_type', 'frame.cap_len', 'frame.len', 'frame.protocols', 'ip.version', 'ip.src', 'ip.dst',
-          'ip.ttl', 'ip.proto', 'ip.hdr_len', 'ip.len', 'ip.id', 'ip.frag_offset', 'ip.flags.mf', 'ip.checksum.status', 'ip.opt.ptr',
+          'ip.ttl', 'ip.proto', 'ip.hdr_len', 'ip.len', 'ip.id', 'ip.frag_offset', 'ip.flags.mf', 'ip.checksum.status',
           'ipv6.src', 'ipv6.dst', 'ipv6.hlim', 'ipv6.nxt', 'ipv6.plen', 'ipv6.hopopts.nxt', 'ipv6.routing.nxt', 'ipv6.dstopts.nxt',
           'ah.next_header', 'ipv6.fraghdr.nxt', 'ipv6.fraghdr.offset', 'ipv6.fraghdr.more', 'ipv6.fraghdr.ident', 'udp.srcport',
           'udp.dstport', 'udp.checksum.status', 'tcp.srcport', 'tcp.dstport', 'tcp.checksum', 'tcp.checksum.status', 'icmp.type',
@@ -30,8 +30,8 @@ OPTIONS = ('ip.defragment:FALSE', 'ipv6.defragment:FALSE', 'tcp.desegment_tcp_st
 # The extension headers of IPv6 by their numbers, with the field that has the number of the next one.
 NEXT = {0: 'ipv6.hopopts.nxt', 43: 'ipv6.routing.nxt', 44: 'ipv6.fraghdr.nxt', 51: 'ah.next_header', 60: 'ipv6.dstopts.nxt'}
 # IANA's keywords of the protocols of which `ipcap` prints the keyword.
-KEYWORDS = {'ICMP': 1, 'IGMP': 2, 'IPv4': 4, 'TCP': 6, 'UDP': 17, 'IPIP': 94, 'IPv6': 41, 'RSVP': 46, 'GRE': 47, 'ESP': 50,
-            'AH': 51, 'IPv6-ICMP': 58, 'IPv6-NoNxt': 59, 'EIGRP': 88, 'OSPFIGP': 89, 'PIM': 103, 'IPComp': 108, 'VRRP': 112,
+KEYWORDS = {'ICMP': 1, 'IGMP': 2, 'IPv4': 4, 'TCP': 6, 'UDP': 17, 'IPv6': 41, 'RSVP': 46, 'GRE': 47, 'ESP': 50, 'AH': 51,
+            'IPv6-ICMP': 58, 'IPv6-NoNxt': 59, 'EIGRP': 88, 'OSPFIGP': 89, 'IPIP': 94, 'PIM': 103, 'IPComp': 108, 'VRRP': 112,
             'L2TP': 115, 'SCTP': 132, 'UDPLite': 136, 'MPLS-in-IP': 137}
 UPPER = {17: ('udp', 'udp.srcport', 'udp.dstport', '>'), 6: ('tcp', 'tcp.srcport', 'tcp.dstport', '>'),
          1: ('icmp', 'icmp.type', 'icmp.code', '/'), 58: ('icmpv6', 'icmpv6.type', 'icmpv6.code', '/')}
@@ -125,8 +125,6 @@ def reason(key, ours, theirs, words, told, digits):
         return 'a fraction of a second that is one or more, a time before 1970, or none'
     if key == 'time' and theirs.startswith(ours) and bin(fractions.Fraction(theirs).denominator).count('1') == 1:
         return 'a unit of a power of two above a microsecond, whose time is cut at six digits'
-    if key == 'destination' and told['ip.opt.ptr']:
-        return 'a source route, whose end tshark shows in place of the destination'
     if key in ('upper', 'length') and words[5].isdigit() and int(words[5]) in NEXT and 'cut' in words:
         return 'a packet that was truncated within its extension headers'
     if key == 'cut' and (max(map(int, ours or theirs)) > 2 ** 31 or int(theirs[0]) > int(theirs[1])):
@@ -144,9 +142,15 @@ def reason(key, ours, theirs, words, told, digits):
     return None
 
 
+def before_packet(told):
+    """what tshark finds before the first IP header"""
+    protocols = told['frame.protocols'].split(':')
+    return protocols[:min(protocols.index(it) for it in ('ip', 'ipv6') if it in protocols)]
+
+
 def is_damaged(told):
     """whether what tshark says of an IP header is a fault: the version, a length, or that there is no whole header"""
-    before = told['frame.protocols'].split(':')
+    before = before_packet(told)
     link = LINKS.get(before[0], 0) + 4 * sum(it in ('vlan', 'ieee8021ad') for it in before)
     room, captured = int(told['frame.len']) - link, int(told['frame.cap_len']) - link
     if 'ipv6' in told['frame.protocols'].split(':') and told['ipv6.plen']:
@@ -161,13 +165,10 @@ def without_packet(words, told):
     """why a line has no packet where tshark finds an IP header"""
     if words[2] != 'other:':
         return f'refused: {" ".join(words[3:6])}' if is_damaged(told) else 'FAILED: refused'
-    protocols = told['frame.protocols'].split(':')
-    before = protocols[:min(protocols.index(it) for it in ('ip', 'ipv6') if it in protocols)]
+    before = before_packet(told)
     if 'ppp' in before and 'chdlc' in before:
         return 'frames of Cisco in a capture of PPP'
-    if 'wlan' in before and words[3] in ('fragment', 'aggregate'):
-        return f'802.11: {words[3]}'
-    if words[3] == 'type' and words[4] in ('0x8100', '0x88a8', '0x9100'):
+    if sum(it in ('vlan', 'ieee8021ad') for it in before) > 2:
         return 'a third tag'
     unread = next((it for it in before if it not in PASSED), None)
     return f'IP after another protocol: {unread}' if unread else 'FAILED: no packet'

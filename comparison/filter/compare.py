@@ -177,10 +177,6 @@ def all_32_bits(pair):
                for one in pair.primitives)
 
 
-def masked_by_zero(pair):
-    return any(one[0] == 'load' and one[-3] == 0 for one in pair.primitives)
-
-
 def name_of_one_protocol(pair):
     return bool(pair.words & ONE_PROTOCOL)
 
@@ -277,7 +273,6 @@ INTENDED = [
     ('a load past the end of the packet: libpcap rejects the packet', load_past_the_end),
     ('ip multicast, and 240.0.0.0/4: libpcap takes it for multicast', reserved_address),
     ('`& 0xffffffff` and 0: the optimiser of libpcap forgets the comparison', all_32_bits),
-    ('`& 0`: the optimiser of libpcap drops what a later load of the same header needs', masked_by_zero),
     ('a port name that services have for one protocol: libpcap then asks for that',
      name_of_one_protocol),
     ('net 0: libpcap takes it for the address 0.0.0.0', net_of_zero),

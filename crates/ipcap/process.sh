@@ -1809,17 +1809,22 @@ failing_errors() {
     "$program" -w - <"$room/cut" >"$room/output" 2>&-
     judge 'standard error closed, with packets that are written' $? 1
     # (what is written to standard error must not get into the file, whose number could be 2)
+    "$program" -w "$room/output" <"$room/cut" 2>&-
+    judge 'standard error closed, with packets of a cut capture that are written to a file' $? 1
     cp "$room/input" "$room/wanted"
     "$program" -w "$room/output" <"$room/input" 2>&-
     judge 'standard error closed, with packets that are written to a file' $? 0
+    : >"$room/output"
     "$program" -w "$room/output" "$room/input" <&- 2>&-
     judge 'standard input and error closed, with packets that are written to a file' $? 0
-    "$program" -w "$room/output" "$room/input" <&- >&- 2>&-
-    judge 'standard streams closed, with packets that are written to a file' $? 0
-    kept '1 2 3 4 5' >"$room/wanted"
-    "$program" -w "$room/output" <"$room/cut" 2>&-
-    judge 'standard error closed, with packets of a cut capture that are written to a file' $? 1
     : >"$room/wanted"
+    "$program" -w "$room/output" <&- >&- 2>&-
+    judge 'standard streams closed, with a file for packets' $? 3
+    echo 'error: /dev/stdout: No such file or directory (os error 2)' >"$room/wanted.errors"
+    "$program" -w /dev/stdout <"$room/input" >&- 2>"$room/errors"
+    judge 'standard output closed, with packets that are written to it by name' $? 2
+    : >"$room/wanted.errors"
+    : >"$room/errors"
     "$program" </dev/null >"$room/output" 2>/dev/full
     judge 'standard error full, with no capture' $? 2
     "$program" tcp prot <"$room/input" >"$room/output" 2>&-

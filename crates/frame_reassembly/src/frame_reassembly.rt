@@ -77,8 +77,8 @@ impl<'a, 'b> FrameReassembly<'a, 'b> {
 
     /// With these slots, from one to [`FrameReassembly::SLOTS`] of them. Datagrams that have slots
     /// go on. Their fragments must have come by [`IpDefragPool::add_packet`], so that the headers of
-    /// the first are kept. Once this is dropped, no contract says what the slots hold: set each `id`
-    /// to `None` before they are lent again.
+    /// the first are kept. Once the `FrameReassembly` is dropped, no contract says what the slots
+    /// hold: set each `id` to `None` before they are lent again.
     pub fn new(slots: &'a mut [IpDefragSlot<'b>]) -> FrameReassembly<'a, 'b>
         requires some { 0 < length slots.old }
         requires few { length slots.old ≤ 32 }

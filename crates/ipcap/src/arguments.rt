@@ -94,8 +94,8 @@ struct NoRoom;
 // What follows the options in the text of `--help`.
 const AFTER_HELP: &str = "\
 FILE is read, a capture in the classic format or in pcapng; `-` and none are standard input. It is
-the first word that is no option, unless it begins as an expression, or with an unsupported word of
-pcap-filter(7): then `-r FILE` names the file.
+the first word that is no option, unless it begins like an expression, or with an unsupported word
+of pcap-filter(7): then `-r FILE` names the file.
 EXPRESSION chooses packets. It has up to 64 words: most words of pcap-filter(7), as in `tcp port 80
 or udp port 53`, and `fragment`, `first fragment` and `checksum wrong`.
 

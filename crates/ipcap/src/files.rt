@@ -69,23 +69,14 @@ impl Writer<Stdout, File> {
     {
         match name {
             None | Some("-") => Ok(Writer::Standard(rt.stdout())),
-            Some(name) => Ok(Writer::File(create_apart(rt, name)?)),
+            Some(name) => {
+                // A clone has a number above 2. The file itself could get that of a closed standard
+                // stream, and then what is written to standard error would end up in it.
+                let file = File::create(rt, name)?;
+                Ok(Writer::File(file.try_clone()?))
+            }
         }
     }
-}
-
-// Makes the file with this name, or empties it, with a number that is none of a standard stream: the
-// system takes the lowest that is free. Where standard error is closed that could be its number, and
-// what is written to standard error would get into the file.
-fn create_apart(rt: &HostRuntime, name: &str) -> io::Result<File> {
-    let others = [
-        File::create(rt, "/dev/null"),
-        File::create(rt, "/dev/null"),
-        File::create(rt, "/dev/null"),
-    ];
-    let file = File::create(rt, name);
-    drop(others);
-    file
 }
 
 impl<S: Write, F: Write> Write for Writer<S, F> {

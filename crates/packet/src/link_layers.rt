@@ -19,7 +19,7 @@ pub struct LinkLayers<'a> {
     pub ether_type: Option<EtherType>,
     /// All bytes after these.
     pub payload: &'a [u8],
-    /// Why there are no more tags, if the frame ends within one: `payload` is what there is of it.
+    /// Why the next tag is not read, if the frame ends within it: `payload` is its bytes.
     pub stop: Option<LenError>,
 }
 

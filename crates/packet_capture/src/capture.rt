@@ -71,7 +71,7 @@ impl fmt::Display for CutOff {
         let (required_len, len) = (self.required_len, self.len);
         write!(
             f,
-            "Capture Error: {required_len} byte(s) are needed, and there are {len}."
+            "Capture Error: {required_len} byte(s) are needed, but there are only {len}."
         )
     }
 }
@@ -98,10 +98,10 @@ impl fmt::Display for CaptureError {
             CaptureError::CutOff(e) => fmt::Display::fmt(&e, f),
             CaptureError::Magic(magic) => {
                 let magic = Word(magic);
-                write!(f, "Capture Error: The magic number is 0x{magic}.")
+                write!(f, "Capture Error: The magic number 0x{magic} is not known.")
             }
             CaptureError::Version { major, minor } => {
-                write!(f, "Capture Error: The version is {major}.{minor}.")
+                write!(f, "Capture Error: Version {major}.{minor} is not read.")
             }
         }
     }

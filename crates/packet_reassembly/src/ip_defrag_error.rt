@@ -39,20 +39,20 @@ impl fmt::Display for IpDefragError {
     fn fmt<W: fmt::Write>(&self, f: &mut fmt::Formatter<W>) -> fmt::Result {
         match *self {
             IpDefragError::Empty { offset } => {
-                let offset = offset.value();
+                let place = offset.byte_offset();
                 write!(
                     f,
-                    "IP Fragment Error: The fragment at offset {offset} has no bytes."
+                    "IP Fragment Error: The fragment at byte {place} has no bytes."
                 )
             }
             IpDefragError::UnalignedFragmentPayloadLen {
                 offset,
                 payload_len,
             } => {
-                let offset = offset.value();
+                let place = offset.byte_offset();
                 write!(
                     f,
-                    "IP Fragment Error: More fragments follow the one at offset {offset}, and its {payload_len} bytes are no multiple of 8."
+                    "IP Fragment Error: More fragments follow the one at byte {place}, and its {payload_len} bytes are no multiple of 8."
                 )
             }
             IpDefragError::SegmentTooBig {
@@ -60,10 +60,10 @@ impl fmt::Display for IpDefragError {
                 payload_len,
                 max,
             } => {
-                let offset = offset.value();
+                let place = offset.byte_offset();
                 write!(
                     f,
-                    "IP Fragment Error: The fragment at offset {offset} has {payload_len} bytes and ends past byte {max}."
+                    "IP Fragment Error: The fragment at byte {place} has {payload_len} bytes and ends past byte {max}."
                 )
             }
         }

@@ -150,30 +150,30 @@ impl fmt::Display for BlockError {
                 let magic = Word(magic);
                 write!(
                     f,
-                    "Capture Error: The block begins with 0x{magic}, and no section has begun."
+                    "Capture Error: No section has begun, and 0x{magic} begins none."
                 )
             }
             BlockError::ByteOrderMagic(magic) => {
                 let magic = Word(magic);
-                write!(f, "Capture Error: The byte-order magic is 0x{magic}.")
+                write!(f, "Capture Error: 0x{magic} is no byte-order magic.")
             }
             BlockError::BlockLength { total_len, .. } => write!(
                 f,
-                "Capture Error: The block has the length {total_len}."
+                "Capture Error: A block of its type cannot have the length {total_len}."
             ),
             BlockError::Lengths { front, back } => write!(
                 f,
-                "Capture Error: The block has the lengths {front} and {back}."
+                "Capture Error: The block has the length {front}, and {back} at its end."
             ),
             BlockError::Version { major, minor } => {
-                write!(f, "Capture Error: The version is {major}.{minor}.")
+                write!(f, "Capture Error: Version {major}.{minor} is not read.")
             }
             BlockError::TooManyInterfaces => {
                 f.write_str("Capture Error: The section has 256 interfaces already.")
             }
             BlockError::OptionLength { code, len, place } => write!(
                 f,
-                "Capture Error: The option {code} at byte {place} of the block has {len} byte(s)."
+                "Capture Error: The option {code} at byte {place} of the block cannot have the length {len}."
             ),
             BlockError::Resolution(value) => write!(
                 f,
@@ -181,11 +181,11 @@ impl fmt::Display for BlockError {
             ),
             BlockError::Interface { id, count } => write!(
                 f,
-                "Capture Error: The packet is of interface {id}, and there are {count}."
+                "Capture Error: The packet is of interface {id}, counted from 0, and there are {count}."
             ),
             BlockError::CapturedLength { captured_len, room } => write!(
                 f,
-                "Capture Error: The packet has {captured_len} byte(s), and the block room for {room}."
+                "Capture Error: The packet has {captured_len} byte(s), but the block has room for {room}."
             ),
         }
     }
