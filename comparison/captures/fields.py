@@ -150,8 +150,8 @@ def before_packet(told):
 
 def is_damaged(told):
     """whether what tshark says of an IP header is a fault: the version, a length, or that there is no whole header"""
-    before = before_packet(told)
-    link = LINKS.get(before[0], 0) + 4 * sum(it in ('vlan', 'ieee8021ad') for it in before)
+    tags = sum(it in ('vlan', 'ieee8021ad') for it in before_packet(told))
+    link = LINKS.get(told['frame.protocols'].partition(':')[0], 0) + 4 * tags
     room, captured = int(told['frame.len']) - link, int(told['frame.cap_len']) - link
     if 'ipv6' in told['frame.protocols'].split(':') and told['ipv6.plen']:
         return 40 + int(told['ipv6.plen']) > room or upper_of(told) is None or told['ip.version'] not in ('', '4')
