@@ -519,7 +519,7 @@ fn show(error: &ffi::DefragError, f: &mut fmt::Formatter<'_>) -> fmt::Result {
     })
 }
 
-/// Says what is wrong, and at which offset.
+/// Says what is wrong, and at which byte of the datagram.
 impl fmt::Display for IpDefragError {
     fn fmt(&self, f: &mut fmt::Formatter<'_>) -> fmt::Result {
         show(&self.numbers(), f)

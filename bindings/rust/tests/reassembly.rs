@@ -91,18 +91,18 @@ fn what_no_datagram_can_have_is_refused() {
     let bytes = vec![0x3c; 65535];
     add(&mut buf, 0);
     let cases = [
-        (5, true, 0, "IP Fragment Error: The fragment at offset 5 has no bytes."),
+        (5, true, 0, "IP Fragment Error: The fragment at byte 40 has no bytes."),
         (
             3,
             true,
             9,
-            "IP Fragment Error: More fragments follow the one at offset 3, and its 9 bytes are no multiple of 8.",
+            "IP Fragment Error: More fragments follow the one at byte 24, and its 9 bytes are no multiple of 8.",
         ),
         (
             8191,
             false,
             8,
-            "IP Fragment Error: The fragment at offset 8191 has 8 bytes and ends past byte 65535.",
+            "IP Fragment Error: The fragment at byte 65528 has 8 bytes and ends past byte 65535.",
         ),
     ];
     let wanted = [

@@ -1,6 +1,6 @@
 //! The text of an error of reassembly.
 
-ghost use Rattle.std.specs.Prelude.{◌≤◌, ◌+◌, ◌++◌, length};
+ghost use Rattle.std.specs.Prelude.{◌≤◌, ◌+◌, ◌*◌, ◌++◌, length};
 ghost use Rattle.std.specs.Fmt.{decimal};
 ghost use Rattle.c_answers.specs.Text.{GivesText};
 ghost use Rattle.c_answers.specs.DefragText.{error_text};
@@ -22,20 +22,20 @@ pub fn put_defrag_error(error: &DefragError, text: &mut [u8]) -> usize
     let offset = usize::from(error.offset);
     match error.kind {
         EMPTY => put_number(
-            "IP Fragment Error: The fragment at offset ",
-            offset,
+            "IP Fragment Error: The fragment at byte ",
+            8 * offset,
             " has no bytes.",
             text,
         ),
         UNALIGNED_LEN => put_numbers(
-            "IP Fragment Error: More fragments follow the one at offset ",
+            "IP Fragment Error: More fragments follow the one at byte ",
             error,
             ", and its ",
             " bytes are no multiple of 8.",
             text,
         ),
         TOO_BIG => put_numbers(
-            "IP Fragment Error: The fragment at offset ",
+            "IP Fragment Error: The fragment at byte ",
             error,
             " has ",
             " bytes and ends past byte 65535.",
@@ -69,7 +69,7 @@ pub fn put_defrag_error(error: &DefragError, text: &mut [u8]) -> usize
     }
 }
 
-// Writes the offset and the length of an error between three texts.
+// Writes the place and the length of a fragment between three texts.
 fn put_numbers(
     before: &'static str,
     error: &DefragError,
@@ -78,14 +78,14 @@ fn put_numbers(
     text: &mut [u8],
 ) -> usize
     requires short { length before.now + length between.now + length after.now ≤ 512 }
-    ensures gives { GivesText (before.now ++ (decimal error.now.offset ++ (between.now
+    ensures gives { GivesText (before.now ++ (decimal (8 * error.now.offset) ++ (between.now
         ++ (decimal error.now.len ++ after.now)))) text.old text.new result }
 {
-    let (mut offset, mut len) = (Buffer::new(), Buffer::new());
+    let (mut place, mut len) = (Buffer::new(), Buffer::new());
     put(
         &[
             before,
-            digits(usize::from(error.offset), &mut offset),
+            digits(8 * usize::from(error.offset), &mut place),
             between,
             digits(error.len, &mut len),
             after,

@@ -453,7 +453,8 @@ static void check_text(void)
     error.len = (size_t)some_number(UINT64_MAX);
     size_t len = etherparse_defrag_error_text(&error, whole, sizeof whole), room = below(sizeof whole + 20);
     expect(len < sizeof whole && strlen(whole) == len && (len != 0) == (error.kind >= 1 && error.kind <= 8), "error_text");
-    snprintf(numbers[0], sizeof numbers[0], " %u ", error.offset);
+    bool is_offset = error.kind == ETHERPARSE_DEFRAG_OFFSET;
+    snprintf(numbers[0], sizeof numbers[0], " %u ", is_offset ? error.offset : 8u * error.offset);
     snprintf(numbers[1], sizeof numbers[1], " %zu bytes", error.len);
     bool has_offset = error.kind >= 1 && error.kind <= 7 && error.kind != ETHERPARSE_DEFRAG_PACKET
         && error.kind != ETHERPARSE_DEFRAG_HEADER_CHAIN && error.kind != ETHERPARSE_DEFRAG_HEADERS_TOO_LONG;

@@ -85,7 +85,7 @@ enum {
 };
 
 /* Room in bytes for the longest text and the 0 after it. */
-#define ETHERPARSE_DEFRAG_ERROR_TEXT_SIZE 123
+#define ETHERPARSE_DEFRAG_ERROR_TEXT_SIZE 122
 
 /* Writes the text of an error, in English and with no newline. As snprintf does, it writes as much
  * of the text as fits into len bytes with a 0 after it, and returns how many bytes the whole text

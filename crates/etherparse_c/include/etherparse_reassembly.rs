@@ -21,7 +21,7 @@ pub const DISCARDED: u32 = 2;
 pub const NO_FRAGMENT: u32 = 3;
 
 /// Room in bytes for the longest text of an error and the 0 after it.
-pub const ERROR_TEXT_SIZE: usize = 123;
+pub const ERROR_TEXT_SIZE: usize = 122;
 
 /// The memory that a datagram takes, in bytes.
 pub const BUF_MEMORY: usize = 73727;

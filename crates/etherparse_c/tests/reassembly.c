@@ -422,16 +422,16 @@ static void texts(void)
     char cut[8] = {1, 1, 1, 1, 1, 1, 1, 1};
     struct etherparse_defrag_error error;
     EXPECT_TEXT(0, 1, 2, "");
-    EXPECT_TEXT(1, 5, 0, "IP Fragment Error: The fragment at offset 5 has no bytes.");
-    EXPECT_TEXT(2, 3, 9, "IP Fragment Error: More fragments follow the one at offset 3, and its 9 bytes are no multiple of 8.");
+    EXPECT_TEXT(1, 5, 0, "IP Fragment Error: The fragment at byte 40 has no bytes.");
+    EXPECT_TEXT(2, 3, 9, "IP Fragment Error: More fragments follow the one at byte 24, and its 9 bytes are no multiple of 8.");
     EXPECT_TEXT(2, 65535, SIZE_MAX,
-        "IP Fragment Error: More fragments follow the one at offset 65535, and its 18446744073709551615 bytes are no multiple of 8.");
+        "IP Fragment Error: More fragments follow the one at byte 524280, and its 18446744073709551615 bytes are no multiple of 8.");
     error.kind = 2;
     error.offset = 65535;
     error.len = SIZE_MAX;
     EXPECT(etherparse_defrag_error_text(&error, NULL, 0), ETHERPARSE_DEFRAG_ERROR_TEXT_SIZE - 1);
     EXPECT_TEXT(3, 8191, 18446744073709551615u,
-        "IP Fragment Error: The fragment at offset 8191 has 18446744073709551615 bytes and ends past byte 65535.");
+        "IP Fragment Error: The fragment at byte 65528 has 18446744073709551615 bytes and ends past byte 65535.");
     EXPECT_TEXT(4, 0, 0, "IP Packet Error: The bytes are no whole IP packet.");
     EXPECT_TEXT(5, 0, 0, "IPv6 Fragment Error: The first fragment lacks a part of the header chain.");
     EXPECT_TEXT(6, 0, 1288, "IP Fragment Error: The headers of the first fragment have 1288 bytes, and there is room for 1280.");
