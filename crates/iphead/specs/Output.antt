@@ -152,3 +152,10 @@ pub record Writes (P : Outcome → Type 0) (status : Status) (old new : Option (
   pub text : List ℕ
   pub outcome : P (status, text)
   pub appended : Appends old new text
+
+-- what the writer holds is what it held before, and then a front of the text of such an outcome
+pub record WritesFront (P : Outcome → Type 0) (old new : Option (List ℕ)) : Type 0 where
+  pub outcome : Outcome
+  pub is_outcome : P outcome
+  pub len : ℕ
+  pub appended : Appends old new (take len outcome.1)

@@ -1,10 +1,11 @@
-ghost use Rattle.std.specs.Prelude.{◌≡◌, ◌≢◌, ◌≤◌, IfOk, IfSome, List, length};
+ghost use Rattle.std.specs.Prelude.{◌≡◌, ◌≢◌, ◌≤◌, ◌⊎◌, IfOk, IfSome, List, length, take};
+ghost use Rattle.std.specs.Io.KnownBytes.{Appends};
 ghost use Rattle.hex.specs.Hex.{decode_of};
 ghost use Rattle.etherparse.specs.ExtensionHeaderChain.{WalksUpTo};
 ghost use Rattle.etherparse.specs.Ipv4Header.{ReadsIpv4};
 ghost use Rattle.iphead.specs.Output.{IsOutput, ReadsIpv6Packet, Reports, ReportsBytes, Writes};
 ghost use Rattle.iphead.specs.Output.{ipv4_outcome, ipv6_outcome, max_extension_headers};
-ghost use Rattle.iphead.specs.Output.{walk_outcome};
+ghost use Rattle.iphead.specs.Output.{WritesFront, walk_outcome};
 
 use crate::decode::decode_input;
 use crate::input::read_digits;
@@ -13,7 +14,7 @@ use crate::status::Status;
 use arrayvec::ArrayVec;
 use etherparse::{IpNumber, Ipv4HeaderSlice, Ipv6Header, Ipv6HeaderSlice};
 use std::io;
-use std::io::{Read, Write};
+use std::io::{ErrorKind, Read, Write};
 
 // The greatest number of extension headers that the walk goes past.
 const MAX_EXTENSION_HEADERS: usize = 32;
@@ -30,19 +31,27 @@ type Text = ArrayVec<u8, OUTPUT_ROOM>;
 ///
 /// Blanks between the digits are dropped. `run` accepts at most 4096 digits among at most 65536
 /// bytes, reads in pieces of 512 bytes, walks past at most 32 extension headers, and allocates no
-/// memory. It prints with one `write_all`, once the whole output is made. A read or a write that
-/// fails ends it at once.
+/// memory. It prints once the whole output is made. A read or a write that fails ends it at once,
+/// and the writer has then got a front of the output, or nothing.
 pub fn run<R: Read, W: Write>(reader: &mut R, writer: &mut W) -> Status
     ensures output { result ≢ Status.Failed → IfSome (R.remaining reader.old) (λ input.
         Writes (IsOutput input) result (W.contents writer.old) (W.contents writer.new)) }
+    ensures front { (writer.new ≡ writer.old) ⊎ IfSome (R.remaining reader.old) (λ input.
+        WritesFront (IsOutput input) (W.contents writer.old) (W.contents writer.new)) }
 {
-    try_run(reader, writer).unwrap_or(Status::Failed)
+    let Ok((status, text)) = try_run(reader) else {
+        return Status::Failed;
+    };
+    if write_front(writer, text.as_slice()) < text.len() {
+        return Status::Failed;
+    }
+    status
 }
 
-// `run`, except that a read or a write that fails is an error.
-fn try_run<R: Read, W: Write>(reader: &mut R, writer: &mut W) -> io::Result<Status>
-    ensures output { IfOk result (λ status. IfSome (R.remaining reader.old) (λ input.
-        Writes (IsOutput input) status (W.contents writer.old) (W.contents writer.new))) }
+// The status, and all that is printed. A read that fails is an error.
+fn try_run<R: Read>(reader: &mut R) -> io::Result<(Status, Text)>
+    ensures output { IfOk result (λ ended. IfSome (R.remaining reader.old) (λ input.
+        IsOutput input (ended.0, ended.1.items))) }
 {
     let mut text = Text::new();
     let status = match read_digits(reader)? {
@@ -52,8 +61,23 @@ fn try_run<R: Read, W: Write>(reader: &mut R, writer: &mut W) -> io::Result<Stat
             Status::BadInput
         }
     };
-    writer.write_all(text.as_slice())?;
-    Ok(status)
+    Ok((status, text))
+}
+
+// Writes bytes as `write_all` does, and returns how many of them the writer has got.
+fn write_front<W: Write>(writer: &mut W, bytes: &[u8]) -> usize
+    ensures { Appends (W.contents writer.old) (W.contents writer.new) (take result bytes.now) }
+{
+    let mut len = 0;
+    let mut tries = u64::MAX;
+    'writes: while len < bytes.len() {
+        match writer.write(&bytes[len..]) {
+            Ok(n) if n > 0 => len += n,
+            Err(e) if tries > 0 && e.kind() == ErrorKind::Interrupted => tries -= 1,
+            _ => break,
+        }
+    }
+    len
 }
 
 // Prints what is to be said about the bytes that digits stand for.
