@@ -1,5 +1,5 @@
 -- What the program prints.
-use Rattle.std.specs.Prelude.{ℕ, ◌≡◌, ◌==◌, ◌+◌, ◌-◌, Bool, List, [], ◌∷◌, ◌++◌, length}
+use Rattle.std.specs.Prelude.{ℕ, ◌≡◌, ◌≤◌, ◌⊎◌, ◌==◌, ◌+◌, ◌-◌, Bool, List, [], ◌∷◌, ◌++◌, length}
 use Rattle.std.specs.Prelude.{codes, drop, slice_index, take}
 use Rattle.std.specs.Prelude.{if◌then◌else◌, MatchBool, Option, Result, Ok, Err}
 use Rattle.std.specs.Io.KnownBytes.{Appends}
@@ -153,9 +153,11 @@ pub record Writes (P : Outcome → Type 0) (status : Status) (old new : Option (
   pub outcome : P (status, text)
   pub appended : Appends old new text
 
--- what the writer holds is what it held before, and then a front of the text of such an outcome
-pub record WritesFront (P : Outcome → Type 0) (old new : Option (List ℕ)) : Type 0 where
+-- the writer gets the text of such an outcome, or a front of it if a write has failed
+pub record WritesFront (P : Outcome → Type 0) (status : Status) (write_failed : Type 0)
+    (old new : Option (List ℕ)) : Type 0 where
   pub outcome : Outcome
   pub is_outcome : P outcome
   pub len : ℕ
   pub appended : Appends old new (take len outcome.1)
+  pub cause : write_failed ⊎ ((status ≡ outcome.0) × (length outcome.1 ≤ len))

@@ -1,5 +1,5 @@
-ghost use Rattle.std.specs.Prelude.{◌≡◌, ◌≢◌, ◌≤◌, ◌⊎◌, IfOk, IfSome, List, length, take};
-ghost use Rattle.std.specs.Io.KnownBytes.{Appends};
+ghost use Rattle.std.specs.Prelude.{◌≡◌, ◌≢◌, ◌≤◌, ◌<◌, ◌⊎◌, IfOk, IfSome, List, length, take};
+ghost use Rattle.std.specs.Io.KnownBytes.{Appends, WriteAppends};
 ghost use Rattle.hex.specs.Hex.{decode_of};
 ghost use Rattle.etherparse.specs.ExtensionHeaderChain.{WalksUpTo};
 ghost use Rattle.etherparse.specs.Ipv4Header.{ReadsIpv4};
@@ -32,12 +32,13 @@ type Text = ArrayVec<u8, OUTPUT_ROOM>;
 /// Blanks between the digits are dropped. `run` accepts at most 4096 digits among at most 65536
 /// bytes, reads in pieces of 512 bytes, walks past at most 32 extension headers, and allocates no
 /// memory. It prints once the whole output is made. A read or a write that fails ends it at once,
-/// and the writer has then got a front of the output, or nothing.
-pub fn run<R: Read, W: Write>(reader: &mut R, writer: &mut W) -> Status
+/// and only a write that fails may leave a front of the output.
+pub fn run<R: Read, W: Sink>(reader: &mut R, writer: &mut W) -> Status
     ensures output { result ≢ Status.Failed → IfSome (R.remaining reader.old) (λ input.
         Writes (IsOutput input) result (W.contents writer.old) (W.contents writer.new)) }
     ensures front { (writer.new ≡ writer.old) ⊎ IfSome (R.remaining reader.old) (λ input.
-        WritesFront (IsOutput input) (W.contents writer.old) (W.contents writer.new)) }
+        WritesFront (IsOutput input) result (W.has_failed writer.new)
+        (W.contents writer.old) (W.contents writer.new)) }
 {
     let Ok((status, text)) = try_run(reader) else {
         return Status::Failed;
@@ -65,19 +66,41 @@ fn try_run<R: Read>(reader: &mut R) -> io::Result<(Status, Text)>
 }
 
 // Writes bytes as `write_all` does, and returns how many of them the writer has got.
-fn write_front<W: Write>(writer: &mut W, bytes: &[u8]) -> usize
-    ensures { Appends (W.contents writer.old) (W.contents writer.new) (take result bytes.now) }
+fn write_front<W: Sink>(writer: &mut W, bytes: &[u8]) -> usize
+    ensures front { Appends (W.contents writer.old) (W.contents writer.new) (take result bytes.now) }
+    ensures failed { result < length bytes.now → W.has_failed writer.new }
 {
     let mut len = 0;
     let mut tries = u64::MAX;
     'writes: while len < bytes.len() {
-        match writer.write(&bytes[len..]) {
+        match writer.write_once(&bytes[len..]) {
             Ok(n) if n > 0 => len += n,
             Err(e) if tries > 0 && e.kind() == ErrorKind::Interrupted => tries -= 1,
             _ => break,
         }
     }
     len
+}
+
+/// What a run writes to: every writer. A run knows `has_failed` only from a write that has failed.
+pub trait Sink: Write {
+    // A write has failed, or has taken nothing.
+    ghost has_failed: { Self → Type 0 };
+
+    /// Writes once, as `write` does.
+    fn write_once(&mut self, bytes: &[u8]) -> io::Result<usize>
+        ensures bound { IfOk result (λ n. n ≤ length bytes.now) }
+        ensures appends { WriteAppends (Self.contents self.old) (Self.contents self.new)
+            result bytes.now }
+        ensures failed { 0 < length bytes.now → IfOk result (λ n. n ≡ 0) → has_failed self.new };
+}
+
+impl<W: Write> Sink for W {
+    ghost has_failed = { λ _. Unit {0} };
+
+    fn write_once(&mut self, bytes: &[u8]) -> io::Result<usize> {
+        self.write(bytes)
+    }
 }
 
 // Prints what is to be said about the bytes that digits stand for.

@@ -6,4 +6,4 @@ use Rattle.iphead.proofs.run.write_front.Goals as goal
 
 pub writes-preserved-then-n-gt0 : goal.writes-preserved-then-n-gt0
 writes-preserved-then-n-gt0 g c =
-    (rw take-add (Appends-trans _ _ _ _ _ c.writes.invariant.0 (rw take_rest at c.in-Ok.ensures.bytes)), omega (arith, c.in-Ok.ensures.bound))
+    (rw take-add (Appends-trans _ _ _ _ _ c.writes.invariant.0 (rw take_rest at c.in-Ok.ensures.appends)), omega (arith, c.in-Ok.ensures.bound))
