@@ -21,14 +21,15 @@ PROGRAM = pathlib.Path(__file__).resolve().parents[2] / 'crates/ipcap/out/ipcap'
 FIELDS = ('frame.time_epoch', 'frame.encap_type', 'frame.cap_len', 'frame.len', 'frame.protocols', 'ip.version', 'ip.src', 'ip.dst',
           'ip.ttl', 'ip.proto', 'ip.hdr_len', 'ip.len', 'ip.id', 'ip.frag_offset', 'ip.flags.mf', 'ip.checksum.status',
           'ipv6.src', 'ipv6.dst', 'ipv6.hlim', 'ipv6.nxt', 'ipv6.plen', 'ipv6.hopopts.nxt', 'ipv6.routing.nxt', 'ipv6.dstopts.nxt',
-          'ah.next_header', 'ipv6.fraghdr.nxt', 'ipv6.fraghdr.offset', 'ipv6.fraghdr.more', 'ipv6.fraghdr.ident', 'udp.srcport',
+          'ah.next_header', 'mip6.proto', 'hip.proto', 'shim6.nxt', 'wlan.qos.mesh_ctl_present', 'ipv6.fraghdr.nxt', 'ipv6.fraghdr.offset', 'ipv6.fraghdr.more', 'ipv6.fraghdr.ident', 'udp.srcport',
           'udp.dstport', 'udp.checksum.status', 'tcp.srcport', 'tcp.dstport', 'tcp.checksum', 'tcp.checksum.status', 'icmp.type',
           'icmp.code', 'icmp.checksum.status', 'icmpv6.type', 'icmpv6.code', 'icmpv6.checksum.status')
 # tshark is not to put anything together, and is to verify every checksum, also where the total length is 0.
 OPTIONS = ('ip.defragment:FALSE', 'ipv6.defragment:FALSE', 'tcp.desegment_tcp_streams:FALSE', 'tcp.analyze_sequence_numbers:FALSE',
            'wlan.enable_decryption:FALSE', 'ip.check_checksum:TRUE', 'tcp.check_checksum:TRUE', 'udp.check_checksum:TRUE')
 # The extension headers of IPv6 by their numbers, with the field that has the number of the next one.
-NEXT = {0: 'ipv6.hopopts.nxt', 43: 'ipv6.routing.nxt', 44: 'ipv6.fraghdr.nxt', 51: 'ah.next_header', 60: 'ipv6.dstopts.nxt'}
+NEXT = {0: 'ipv6.hopopts.nxt', 43: 'ipv6.routing.nxt', 44: 'ipv6.fraghdr.nxt', 51: 'ah.next_header', 60: 'ipv6.dstopts.nxt',
+        135: 'mip6.proto', 139: 'hip.proto', 140: 'shim6.nxt'}
 # IANA's keywords of the protocols of which `ipcap` prints the keyword.
 KEYWORDS = {'ICMP': 1, 'IGMP': 2, 'IPv4': 4, 'TCP': 6, 'UDP': 17, 'IPv6': 41, 'RSVP': 46, 'GRE': 47, 'ESP': 50, 'AH': 51,
             'IPv6-ICMP': 58, 'IPv6-NoNxt': 59, 'EIGRP': 88, 'OSPFIGP': 89, 'IPIP': 94, 'PIM': 103, 'IPComp': 108, 'VRRP': 112,
@@ -170,6 +171,8 @@ def without_packet(words, told):
         return 'frames of Cisco in a capture of PPP'
     if sum(it in ('vlan', 'ieee8021ad') for it in before) > 2:
         return 'a third tag'
+    if told['wlan.qos.mesh_ctl_present'] in ('1', 'True'):
+        return 'a mesh header'
     unread = next((it for it in before if it not in PASSED), None)
     return f'IP after another protocol: {unread}' if unread else 'FAILED: no packet'
 

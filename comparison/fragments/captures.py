@@ -47,7 +47,7 @@ def packet_of(link, frame):
     if link == 113: # Linux cooked; of netlink, frame relay and radiotap it has no EtherType
         other = frame[2:4] in (b'\x03\x38', b'\x03\x02', b'\x03\x23')
         return frame[16:] if frame[14:16] in IP and not other else b''
-    return {0: frame[4:], 12: frame, 14: frame, 101: frame}.get(link, b'')
+    return {0: frame[4:], 12: frame, 14: frame, 101: frame, 228: frame, 229: frame}.get(link, b'')
 
 
 def fragment_of(packet):

@@ -1,3 +1,5 @@
+use Rattle.std.proofs.Common.{arith}
+use Rattle.std.proofs.lemmas.Fmt.{decimal-digits_of}
 use Rattle.c_answers.proofs.defrag_text.put_defrag_error.Goals as goal
 
 pub returns-in-1 : goal.returns-in-1
@@ -7,7 +9,7 @@ pub returns-in-2 : goal.returns-in-2
 returns-in-2 c = record { gives = rw c.in-2.is c.put_numbers.ensures.gives }
 
 pub returns-in-3 : goal.returns-in-3
-returns-in-3 c = record { gives = rw c.in-3.is c.put_numbers-in-3.ensures.gives }
+returns-in-3 c = record { gives = rw (c.in-3.is, decimal-digits_of 65535 (omega arith) (omega arith)) c.put_numbers-in-3.ensures.gives }
 
 pub returns-in-4 : goal.returns-in-4
 returns-in-4 c = record { gives = rw c.in-4.is c.put.ensures.gives }
