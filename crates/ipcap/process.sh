@@ -1771,7 +1771,7 @@ failing_ends() {
         judge "standard output closed, with '$words'" $? 3
         mkfifo "$room/pipe"
         exec 3<>"$room/pipe" 4>"$room/pipe" 3<&-
-        echo 'error: a write failed: Broken pipe (os error 32)' >"$room/wanted.errors"
+        : >"$room/wanted.errors"
         "$program" $words <"$room/input" >&4 2>"$room/errors"
         judge "a pipe that nobody reads, with '$words'" $? 3
         exec 4>&-

@@ -5,7 +5,7 @@ use Rattle.std.specs.Prelude.{Err, None, Ok, Option, Result, Some, codes, false,
 use Rattle.std.specs.Prelude.{MatchResult, unwrap_or}
 use Rattle.std.specs.declared.alloc.AllocError.{AllocError}
 use Rattle.std.specs.declared.io.Error.{Error}
-use Rattle.std.specs.declared.io.ErrorKind.TheVariants.{OutOfMemory}
+use Rattle.std.specs.declared.io.ErrorKind.TheVariants.{BrokenPipe, OutOfMemory}
 use Rattle.clap.specs.Values.{kind_of}
 use Rattle.clap.specs.Words.{HasKind, IsParsedFrom, app_of, fault_of, found_of, matches_of}
 use Rattle.clap.specs.Words.{rows_of}
@@ -46,6 +46,11 @@ abbrev pub reason_of : Failure → Option Error → Option Error → Option Erro
 reason_of failure.Read of_read of_write = of_read
 reason_of failure.Write of_read of_write = of_write
 reason_of failure.Count of_read of_write = None
+
+-- the output is a pipe that nobody reads any more, as after `head`
+abbrev pub IsUnread : Failure → Option Error → Type 0
+IsUnread failure.Write (Some e) = error_kind e ≡ BrokenPipe
+IsUnread of why = ⊥
 
 -- the name of a file as it is shown: `-` if there is none
 abbrev pub name_of : Option (List ℕ) → List ℕ
@@ -122,16 +127,20 @@ module _ {R W E : Type 0} (remaining : R → Option (List ℕ)) (contents : W �
     pub unfailed : NoReadFails read_failed input left
     pub unfailed_writes : NoWriteFails write_failed old new
 
-  -- it fails, standard error gets a line on that, and the code is 3
+  -- It fails, and the code is 3. Standard error gets a line on that, but none if nobody reads the
+  -- output any more.
   pub record FailsWith (request : Request) (memory : Memory) (input left : Input R)
       (old new : Output W) (old_errors new_errors : Output E) (code : ℕ) : Type 0 where
     pub of : Failure
+    pub why : Option Error
+    pub is_why : why ≡ reason_of of (why_read left.source) (why_written new.sink)
     pub is_code : code ≡ 3
     pub mid : Output E
     pub fails : Fails remaining contents read_failed write_failed request memory of
         input left old new old_errors mid
-    pub said : Says contents_of_errors error_failed is_text (failure_text of)
-        (reason_of of (why_read left.source) (why_written new.sink)) mid new_errors
+    pub said : ¬ IsUnread of why → Says contents_of_errors error_failed is_text (failure_text of)
+        why mid new_errors
+    pub silent : IsUnread of why → new_errors ≡ mid
 
   -- a run from this input to this output has this exit status, and leaves them so
   abbrev pub Runs : Request → Memory → Input R → Input R → Output W → Output W → Output E

@@ -1,12 +1,12 @@
 //! What the program does with the words of its command line.
 
-ghost use Rattle.std.specs.Prelude.{◌≡◌, [], IfErr, IfOk, IsOk, Ok, OnErr, Some, false, map};
+ghost use Rattle.std.specs.Prelude.{◌≡◌, ◌↔◌, [], IfErr, IfOk, IsOk, IsTrue, Ok, OnErr, Some, false, map};
 ghost use Rattle.std.specs.Prelude.{string_bytes, true};
 ghost use Rattle.std.specs.declared.io.Error.{Error};
 ghost use Rattle.ipcap.specs.Arguments.{text_of};
 ghost use Rattle.ipcap.specs.Faults.{Says};
-ghost use Rattle.ipcap.specs.Program.{Answers, HasCode, IsRequest, LacksMemory, Obeys, Runs};
-ghost use Rattle.ipcap.specs.Program.{RunsAnew, Stops};
+ghost use Rattle.ipcap.specs.Program.{Answers, HasCode, IsRequest, IsUnread, LacksMemory, Obeys};
+ghost use Rattle.ipcap.specs.Program.{Runs, RunsAnew, Stops};
 ghost use Rattle.ipcap.specs.Program.{failure_text, name_of, reason_of, unopened};
 ghost use Rattle.ipcap.specs.Request.{IsNoFilter};
 ghost use Rattle.ipcap.specs.Streams.{pending};
@@ -238,9 +238,22 @@ fn list<R: Source, W: Sink, E: Sink>(
         Ok(status) => status.code(),
         Err(failure) => {
             let (what, why) = reason_of(failure, &input.source, &output.sink);
+            if is_unread(failure, &why) {
+                return FAILED;
+            }
             errors.say(what.as_bytes(), why);
             FAILED
         }
+    }
+}
+
+// Whether the output is a pipe that nobody reads any more, as after `head`.
+fn is_unread(failure: Failure, why: &Option<io::Error>) -> bool
+    ensures value { IsTrue result ↔ IsUnread failure why.now }
+{
+    match (failure, why) {
+        (Failure::Write, Some(e)) => e.kind() == io::ErrorKind::BrokenPipe,
+        _ => false,
     }
 }
 
