@@ -5,6 +5,7 @@ mod decode;
 mod input;
 mod lines;
 mod run;
+mod sink;
 mod status;
 
 use run::run;

@@ -1,5 +1,5 @@
 ghost use Rattle.std.specs.Prelude.{◌≡◌, ◌≢◌, ◌≤◌, ◌<◌, ◌⊎◌, IfOk, IfSome, List, length, take};
-ghost use Rattle.std.specs.Io.KnownBytes.{Appends, WriteAppends};
+ghost use Rattle.std.specs.Io.KnownBytes.{Appends};
 ghost use Rattle.hex.specs.Hex.{decode_of};
 ghost use Rattle.etherparse.specs.ExtensionHeaderChain.{WalksUpTo};
 ghost use Rattle.etherparse.specs.Ipv4Header.{ReadsIpv4};
@@ -10,6 +10,7 @@ ghost use Rattle.iphead.specs.Output.{WritesFront, walk_outcome};
 use crate::decode::decode_input;
 use crate::input::read_digits;
 use crate::lines::{write_error, write_ipv4, write_ipv6, write_upper_layer};
+use crate::sink::Sink;
 use crate::status::Status;
 use arrayvec::ArrayVec;
 use etherparse::{IpNumber, Ipv4HeaderSlice, Ipv6Header, Ipv6HeaderSlice};
@@ -80,27 +81,6 @@ fn write_front<W: Sink>(writer: &mut W, bytes: &[u8]) -> usize
         }
     }
     len
-}
-
-/// What a run writes to: every writer. A run knows `has_failed` only from a write that has failed.
-pub trait Sink: Write {
-    // A write has failed, or has taken nothing.
-    ghost has_failed: { Self → Type 0 };
-
-    /// Writes once, as `write` does.
-    fn write_once(&mut self, bytes: &[u8]) -> io::Result<usize>
-        ensures bound { IfOk result (λ n. n ≤ length bytes.now) }
-        ensures appends { WriteAppends (Self.contents self.old) (Self.contents self.new)
-            result bytes.now }
-        ensures failed { 0 < length bytes.now → IfOk result (λ n. n ≡ 0) → has_failed self.new };
-}
-
-impl<W: Write> Sink for W {
-    ghost has_failed = { λ _. Unit {0} };
-
-    fn write_once(&mut self, bytes: &[u8]) -> io::Result<usize> {
-        self.write(bytes)
-    }
 }
 
 // Prints what is to be said about the bytes that digits stand for.
