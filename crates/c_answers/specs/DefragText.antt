@@ -7,8 +7,8 @@ use Rattle.packet_reassembly.specs.declared.ip_defrag_packet.IpDefragPacketError
     as packet
 use Rattle.c_answers.specs.declared.defrag_error.DefragError.{DefragError}
 
--- the text of an error, by its kind: the library's own, but for a packet of which C is not told why
--- it is no whole IP packet, and for what only C can ask for
+-- the text of an error, by its kind: the library's own, unless C is told less than the library's
+-- error says (4, 8), or the library has no such error (7)
 abbrev pub error_text : DefragError → List ℕ
 error_text e =
     if e.kind == 1 then ip_defrag_error_text (fragment.Empty e.offset)
