@@ -92,6 +92,11 @@ static inline __attribute__((always_inline)) void BY_HAND(const uint8_t *frame, 
     size_t packet_len = sizeof *header + ntohs(header->ip6_plen);
     body = at + sizeof *header;
     end = at + packet_len;
+    if (header->ip6_plen == 0 && header->ip6_nxt == IPPROTO_HOPOPTS) { /* as in a jumbogram */
+      packet->stop = (STOP){ ETHERPARSE_LEN, ETHERPARSE_FROM_IPV6_PAYLOAD_LENGTH, ETHERPARSE_IPV6_EXT_HEADER, 2, 0, body, 0 };
+      packet_len = 0;
+      end = len;
+    }
     if (there < packet_len) {
       packet->stop = (STOP){ ETHERPARSE_LEN, 0, ETHERPARSE_IPV6_PACKET, packet_len, there, at, 0 };
       end = len;

@@ -131,8 +131,8 @@ def reason(key, ours, theirs, words, told, digits):
         return 'a packet that was truncated within its extension headers'
     if key == 'cut' and (max(map(int, ours or theirs)) > 2 ** 31 or int(theirs[0]) > int(theirs[1])):
         return 'lengths of 2^31 and more, or a captured length above the length'
-    if key in ('length', 'upper', 'detail', 'payload') and words[-3:] == ['total', 'length', '0']:
-        return 'a total length of 0'
+    if key in ('length', 'upper', 'detail', 'payload') and words[17:19] == ['length', '0']:
+        return 'a length field of 0'
     if key in ('detail', 'payload') and is_later:
         return 'tshark shows the port of a later fragment'
     if key == 'detail' and ours == '-' and ('cut' in words or '@' in words[12] or int(words[8]) < LEAST.get(words[5], 0)):

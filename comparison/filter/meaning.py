@@ -33,7 +33,7 @@ ARPHRD_AT, NO_ETHER_TYPE = {113: 2, 276: 8}, (824, 770, 803)
 
 @dataclass
 class Ip:
-    """an IP packet, as far as its length field says and its bytes are there"""
+    """an IP packet, as far as its length field says, if it does, and its bytes are there"""
     version: int
     source: int
     destination: int
@@ -87,10 +87,11 @@ def read_ipv4(data):
 def read_ipv6(data):
     if len(data) < 40 or data[0] // 16 != 6:
         return None
-    told = 40 + number_at(data, 4)
-    whole = data[:told]
+    # a jumbogram (RFC 2675) has its length in an option after the header
+    told = 40 + number_at(data, 4) if data[4:7] != bytes(3) else 0
+    whole = data if told == 0 else data[:told]
     number, rest = data[6], whole[40:]
-    chain, fragment, offset, later, complete = [], False, 0, False, told <= len(data)
+    chain, fragment, offset, later, complete = [], False, 0, False, 0 < told <= len(data)
     while number in EXTENSIONS and not later:
         if number == 44:
             length = 8

@@ -628,15 +628,16 @@ lengths() {
     judge 'total lengths of 0, and a first fragment of four bytes' $? 0
 }
 
-# cut_ipv6 FIRST EXTENSIONS CAPTURED: a record of so many bytes of an IPv6 packet that had 80. The
-# number of its first extension header, and its bytes after the header, are as `printf` takes them.
+# cut_ipv6 FIRST EXTENSIONS CAPTURED [LENGTH ORIGINAL]: a record of so many bytes of an IPv6 packet
+# that had 80 bytes, or ORIGINAL. The number of its first extension header, its bytes after the header, and
+# its payload length are as `printf` takes them.
 cut_ipv6() {
     addresses='\40\1\15\270\0\0\0\0\0\0\0\0\0\0\0\1\40\1\15\270\0\0\0\0\0\1\0\0\0\0\0\2'
-    printf "\140\0\0\0\0\50$1\100$addresses$2" >"$room/packet"
+    printf "\140\0\0\0${4-\0\50}$1\100$addresses$2" >"$room/packet"
     number 1700000001
     number 1001
     number "$3"
-    number 80
+    number "${5-80}"
     dd if="$room/packet" bs=1 count="$3" 2>/dev/null
 }
 
@@ -674,6 +675,47 @@ cut_extensions() {
         '0 with a wrong checksum' >"$room/wanted.errors"
     run
     judge 'IPv6 packets that are cut among their extension headers' $? 0
+}
+
+# Jumbograms (RFC 2675), whose payload length is 0 and in which hop-by-hop options follow the header:
+# two that the capture cut, the second within these options; the same bytes of both, but none left
+# out. And a packet with a payload length of 0 before a UDP header, which is then no part of it.
+jumbograms() {
+    jumbogram='\21\0\302\4\0\1\0\10\0\65\234\100\0\0\0\0\1\2\3\4'
+    {
+        bytes 0 20
+        number 101
+        cut_ipv6 '\0' "$jumbogram" 60 '\0\0' 65584
+        cut_ipv6 '\0' "$jumbogram" 44 '\0\0' 65584
+        cut_ipv6 '\0' "$jumbogram" 60 '\0\0' 60
+        cut_ipv6 '\0' "$jumbogram" 44 '\0\0' 44
+        cut_ipv6 '\21' "$jumbogram" 60 '\0\0' 60
+    } >"$room/input"
+    parties='2001:db8::1 > 2001:db8::1:0:0:2'
+    {
+        echo "1 1700000001.001001 $parties UDP 53>40000 length 12" \
+            'hops 64 fragment - checksums none none payload length 0 cut 60/65584'
+        echo "2 1700000001.001001 $parties 0 - length 4" \
+            'hops 64 fragment - checksums none none payload length 0 cut 44/65584'
+        echo "3 1700000001.001001 $parties UDP 53>40000 length 12" \
+            'hops 64 fragment - checksums none none payload length 0'
+        echo '4 1700000001.001001 error: IPv6 Extension Header Error: Not enough data to decode' \
+            "'IPv6 extension header'. 2 byte(s) would be required, but only 0 byte(s) are" \
+            "available based on the length calculated from the IPv6 header 'payload length' field" \
+            "('IPv6 extension header' starts at overall parsed byte 40)."
+        echo "5 1700000001.001001 $parties UDP - length 0" \
+            'hops 64 fragment - checksums none none'
+    } >"$room/wanted"
+    echo '5 packets: 0 IPv4, 4 IPv6, 0 other, 1 refused, 0 skipped, 2 cut,' \
+        '0 with a wrong checksum' >"$room/wanted.errors"
+    run
+    judge 'jumbograms' $? 0
+    sed -n -e 1p -e 3p "$room/wanted" >"$room/chosen"
+    mv "$room/chosen" "$room/wanted"
+    echo '2 of 5 packets: 0 IPv4, 2 IPv6, 0 other, 0 refused, 0 skipped, 1 cut,' \
+        '0 with a wrong checksum' >"$room/wanted.errors"
+    run udp port 53
+    judge 'jumbograms that an expression chooses' $? 0
 }
 
 # A later fragment of a first fragment: what follows the second fragment header is no header.
@@ -1959,6 +2001,7 @@ for build; do
     cut_packets
     lengths
     cut_extensions
+    jumbograms
     nested_fragment
     protocols
     changed_captures

@@ -5,8 +5,8 @@ use crate::{ffi, parts, EtherType, LinkType, SlicedPacket};
 use core::ops::Deref;
 
 /// The layers of a frame as far as they can be read: of one that a capture truncated, of one that
-/// is damaged, or of a packet whose sender left its length to the network card. It has the fields
-/// and the calls of [`SlicedPacket`].
+/// is damaged, of a packet whose sender left its length to the network card, or of a jumbogram. It
+/// has the fields and the calls of [`SlicedPacket`].
 ///
 /// ```
 /// use etherparse_proved::LaxSlicedPacket;

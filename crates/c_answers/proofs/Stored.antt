@@ -25,7 +25,7 @@ use Rattle.packet.specs.declared.link_layers.LinkLayers.{LinkLayers}
 use Rattle.packet.specs.declared.sliced_packet.SlicedPacket.{SlicedPacket}
 use Rattle.packet.specs.declared.transport.TransportSlice.{TransportSlice}
 use Rattle.packet.specs.declared.transport.TransportSlice.TheVariants as transport
-use Rattle.packet_parts.proofs.IpPackets.{whole_4, whole_or_refused}
+use Rattle.packet_parts.proofs.IpPackets.{ipv6_bytes-told, other-told, whole_4, whole_or_refused}
 use Rattle.packet_parts.proofs.IpParts.{cut_front}
 use Rattle.packet_parts.specs.Extensions.{EndsAs, at_front}
 use Rattle.packet_parts.specs.IpSlice.{HasLaxIpParts, header_len_of, ipv4_fragment_of, ipv6_bytes}
@@ -67,9 +67,10 @@ pub ipv6_parts : (packet : List ℕ) (view : Ipv6HeaderSlice) (f : HasFront IsIp
     → slice.fragment ≡ None → slice.is_later_fragment ≡ false → slice.upper ≡ f.header.next_header → slice.payload.now ≡ take f.header.payload_length f.rest → f.header.payload_length ≤ length f.rest
     → ¬ IsSkippable slice.upper → HasLaxIpParts packet (record { slice = slice; stop = None })
 ipv6_parts packet view f slice of_view extensions fragment later upper payload enough last =
+    let told = other-told f.header.payload_length f.header.next_header (rw upper at last) in
     let cut = cut_front packet view.slice.now f.rest f.header.payload_length (40 + f.header.payload_length) f.whole (omega (arith, f.layout.len)) in
     let begins : BeginsWith IsIpv6Layout (ipv6_bytes f.header packet) f.header slice.payload.now =
-    record { front = view.slice.now; whole = cut ∙ ap (λ x. view.slice.now ++ x) (sym payload); layout = f.layout } in
+    record { front = view.slice.now; whole = sym (ipv6_bytes-told f.header packet told) ∙ cut ∙ ap (λ x. view.slice.now ++ x) (sym payload); layout = f.layout } in
     let there : 40 + f.header.payload_length ≤ length packet = omega (arith, enough, f.layout.len, ap length f.whole, length-append {A = ℕ}) in
     let ends : EndsAs slice.is_later_fragment None slice.payload.now f.header.next_header None slice.upper slice.payload.now = rw (later, upper) (at_front, rw upper at last) in
     record {
@@ -84,7 +85,7 @@ ipv6_parts packet view f slice of_view extensions fragment later upper payload e
         ends = ends;
         fragment = fragment;
       });
-      stop = whole_or_refused packet slice.payload.now view f.header slice None begins refl of_view there None None refl ends;
+      stop = whole_or_refused packet slice.payload.now view f.header slice None begins refl of_view told there None None refl ends;
     }
 
 -- a header that is there stops nothing, whether in a fragment or not

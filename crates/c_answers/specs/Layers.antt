@@ -120,7 +120,7 @@ ip_version (version.Ipv4 view) = 4
 ip_version (version.Ipv6 view) = 6
 
 -- The parts of an IP packet at a place, one after the other. It is truncated if fewer bytes are
--- there than its length field says.
+-- there than its length field says, if that says something.
 abbrev pub ip_parts_in_c : ℕ → ℕ → IpSlice → PacketIp
 ip_parts_in_c place there ip = record {
   header = part_at place (header_bytes ip.header);

@@ -81,7 +81,8 @@ pub struct PacketIp {
     pub extensions: Part,
     /// What follows them, as far as it is there and the packet goes.
     pub payload: Part,
-    /// How long the packet is by its length field, in bytes and with the header.
+    /// How long the packet is by its length field, in bytes and with the header; 0 if that says
+    /// nothing.
     pub packet_len: usize,
     /// Of a fragment: equal in all fragments of one packet.
     pub identification: u32,
@@ -97,7 +98,8 @@ pub struct PacketIp {
     pub more_fragments: bool,
     /// Whether the payload is a later fragment, which begins with no header of an upper layer.
     pub is_later_fragment: bool,
-    /// Whether the frame has fewer bytes of the packet than its length field says.
+    /// Whether the frame has fewer bytes of the packet than its length field says; `false` if that
+    /// says nothing.
     pub is_truncated: bool,
 }
 
@@ -135,7 +137,7 @@ pub struct Packet {
     pub ip: PacketIp,
     /// The transport header; its kind is 0 if there is none.
     pub transport: PacketTransport,
-    /// Why the frame is not read further; its kind is 0 if nothing stopped that.
+    /// Why a strict call refuses the frame; its kind is 0 if it does not.
     pub stop: Error,
     /// The checksum of an IPv4 header: 0 none, or not asked for; 1 right; 2 wrong.
     pub header_checksum: u8,

@@ -193,7 +193,8 @@ size_t make_ip(uint8_t *at, uint8_t version)
         if (below(3) != 0)
             put(at + 6, 2, below(4) == 0 ? next_random() & 0x2007 : 0x4000);
     } else {
-        uint8_t first = below(3) == 0 ? 44 : 60;
+        static const uint8_t firsts[] = {44, 60, 60, 0};
+        uint8_t first = firsts[below(4)];
         header_len = make_ipv6(at, first);
         len = header_len + make_chain(at + header_len, first, upper);
         if (len == header_len)
@@ -203,6 +204,7 @@ size_t make_ip(uint8_t *at, uint8_t version)
     complete(version, at, len, upper, at + len, payload_len);
     len += payload_len;
     size_t said = version == 4 ? len : len - 40;
+    /* Another length. One of 0 says nothing in IPv4, and in IPv6 before hop-by-hop options. */
     if (below(8) == 0)
         said = below(4) == 0 ? 0 : below(2 * said + 1);
     put(at + (version == 4 ? 2 : 4), 2, said);

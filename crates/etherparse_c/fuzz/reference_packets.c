@@ -243,7 +243,8 @@ static bool read_ipv4(const uint8_t *frame, size_t len, size_t place, struct eth
     return true;
 }
 
-/* The parts of an IPv6 packet at a place (RFC 8200 sections 3, 4 and 4.5; atomic fragments: RFC 6946); whether there is one. */
+/* The parts of an IPv6 packet at a place (RFC 8200 sections 3, 4 and 4.5; atomic fragments: RFC 6946; jumbograms, whose length is in
+ * an option: RFC 2675 section 3); whether there is one. */
 static bool read_ipv6(const uint8_t *frame, size_t len, size_t place, struct etherparse_packet *packet)
 {
     const struct etherparse_ipv6_view_answer seen = reference_ipv6_view(frame + place, len - place);
@@ -257,6 +258,11 @@ static bool read_ipv6(const uint8_t *frame, size_t len, size_t place, struct eth
     ip->packet_len = 40 + (size_t)seen.view.payload_length;
     size_t end = place + ip->packet_len, at = place + 40;
     uint8_t number = seen.view.next_header;
+    if (seen.view.payload_length == 0 && number == 0) {
+        stop_short(packet, ETHERPARSE_IPV6_EXT_HEADER, ETHERPARSE_FROM_IPV6_PAYLOAD_LENGTH, 2, 0, at);
+        ip->packet_len = 0;
+        end = len;
+    }
     if (len < end) {
         stop_short(packet, ETHERPARSE_IPV6_PACKET, ETHERPARSE_FROM_SLICE, ip->packet_len, len - place, place);
         end = len;

@@ -486,9 +486,13 @@ struct etherparse_packet_ip {
     struct etherparse_part header; /* with the options of IPv4, without extension headers */
     /* the extension headers of IPv6, with a fragment header; len is 0 if there are none */
     struct etherparse_part extensions;
-    /* what follows them, as far as it is there and the packet goes: without Ethernet's padding */
+    /* what follows them, as far as it is there and the packet goes: without Ethernet's padding, if
+     * packet_len is not 0 */
     struct etherparse_part payload;
-    size_t packet_len; /* how long the packet says it is, in bytes and with the header */
+    /* how long the packet says it is, in bytes and with the header; 0 if it does not say it: by a
+     * total length of 0, or a payload length of 0 before hop-by-hop options, as in a jumbogram (RFC
+     * 2675 section 3), whose length in these is not read */
+    size_t packet_len;
     uint32_t identification; /* of a fragment */
     uint32_t fragment_offset; /* of a fragment, in bytes */
     uint8_t version; /* 4 or 6 */
@@ -496,7 +500,7 @@ struct etherparse_packet_ip {
     bool is_fragment; /* more fragments follow, or the offset is not 0 */
     bool more_fragments; /* of a fragment: more follow */
     bool is_later_fragment; /* the payload begins with no header of an upper layer */
-    bool is_truncated; /* fewer bytes are there than packet_len */
+    bool is_truncated; /* fewer bytes are there than packet_len; false if that is 0 */
 };
 
 /* The transport header of an IP packet: UDP, TCP, ICMP over IPv4 or ICMPv6 over IPv6. */
@@ -534,8 +538,8 @@ struct etherparse_packet {
     struct etherparse_packet_link link;
     struct etherparse_packet_ip ip;
     struct etherparse_packet_transport transport;
-    /* why the frame is not read further; each layer_start_offset counts from the start of the
-     * frame. ETHERPARSE_OK if nothing stopped the reading */
+    /* why a strict call refuses the frame; each layer_start_offset counts from the start of the
+     * frame. ETHERPARSE_OK if it does not */
     struct etherparse_error stop;
     uint8_t header_checksum; /* of an IPv4 header: NOT_JUDGED, RIGHT or WRONG */
     uint8_t payload_checksum; /* of UDP, TCP, ICMP or ICMPv6: one of the numbers above */
@@ -555,8 +559,8 @@ enum {
 };
 
 /* The layers of a frame of a link type, as far as they can be read: also if a capture cut it, if it
- * is damaged, or if the sender of its packet left the length to the network card. If checksums is
- * true, the checksums are judged, which reads all bytes of the packet.
+ * is damaged, or if the sender of its packet left the length to the network card, and of a
+ * jumbogram. If checksums is true, the checksums are judged, which reads all bytes of the packet.
  *
  * If stop.kind is LINK_TYPE, or LEN with the layer LINK_HEADER, there are no layers and all else
  * is 0. Otherwise what was read is there: if the frame ends within the IP packet, after its header,

@@ -1,5 +1,5 @@
-//! Packets above the library: the caller of `docs/LAYER.md`, and a packet that ends early. The sample
-//! that `conformance` replays has whole packets of every kind.
+//! Packets above the library: the caller of `docs/LAYER.md`, a packet that ends early, and a
+//! jumbogram. The sample that `conformance` replays has whole packets of every kind.
 
 use crate::shared::assert_equal;
 use etherparse::err::ipv4::HeaderSliceError;
@@ -7,7 +7,7 @@ use etherparse::err::{Layer, LenError};
 use etherparse::{IpNumber, Ipv4Header, LenSource};
 use etherparse_transport::UdpHeader;
 use packet_parts::fragment::Fragment;
-use packet_parts::ip_slice::{IpSliceError, LaxIpSlice};
+use packet_parts::ip_slice::{IpSlice, IpSliceError, LaxIpSlice};
 
 // The caller of `docs/LAYER.md`, line by line as it stands there.
 /// The UDP header of an IPv4 packet; `None` for another protocol and for a fragment.
@@ -83,5 +83,45 @@ fn a_packet_that_ends_early_has_the_parts_that_are_there(
         layer_start_offset: 0,
     };
     assert_equal(&rt, lax.stop, Some(IpSliceError::Packet(missing)));
+    Ok(())
+}
+
+// A jumbogram between the same: hop-by-hop options that tell a length of 65544, and 12 bytes of the
+// UDP datagram after them.
+const JUMBOGRAM: [u8; 60] = [
+    0x60, 0, 0, 0, 0, 0, 0, 64, 0x20, 0x01, 0x0d, 0xb8, 0, 0, 0, 0, 0, 0, 0, 0, 0, 0, 0, 1, 0x20,
+    0x01, 0x0d, 0xb8, 0, 0, 0, 0, 0, 0, 0, 0, 0, 0, 0, 2, 17, 0, 0xc2, 4, 0, 1, 0, 8, 4, 0, 0, 53,
+    0, 0, 0x91, 0xae, 1, 2, 3, 4,
+];
+
+#[test]
+fn a_jumbogram_has_the_parts_of_all_bytes(rt: HostRuntime) -> Result<(), IpSliceError> {
+    let missing = LenError {
+        required_len: 2,
+        len: 0,
+        len_source: LenSource::Ipv6HeaderPayloadLen,
+        layer: Layer::Ipv6ExtHeader,
+        layer_start_offset: 40,
+    };
+    let refused = Some(IpSliceError::Extensions(missing));
+    let lax = LaxIpSlice::from_slice(&JUMBOGRAM)?;
+    let slice = &lax.slice;
+    assert_equal(
+        &rt,
+        (slice.extensions, slice.upper, slice.payload),
+        (&JUMBOGRAM[40..48], IpNumber::UDP, &JUMBOGRAM[48..]),
+    );
+    assert_equal(&rt, (slice.header.packet_len(), &lax.stop), (0, &refused));
+    assert_equal(&rt, IpSlice::from_slice(&JUMBOGRAM).err(), refused);
+    // Before any other header a payload length of 0 is that of an empty payload.
+    let mut packet = JUMBOGRAM;
+    packet[6] = 60;
+    let lax = LaxIpSlice::from_slice(&packet)?;
+    let slice = &lax.slice;
+    assert_equal(
+        &rt,
+        (slice.header.packet_len(), slice.payload),
+        (40, [].as_slice()),
+    );
     Ok(())
 }

@@ -129,15 +129,21 @@ slice_text slice detail = address_text slice.header (source_of slice.header) ++ 
 unfoldable pub parties_text : Shown → List ℕ
 parties_text shown = slice_text shown.lax.slice shown.detail
 
+-- that the length field is 0 and says nothing
+abbrev pub no_length_text : IpHeaderSlice → List ℕ
+no_length_text (header.Ipv4 view) = codes " total length 0"
+no_length_text (header.Ipv6 view) = codes " payload length 0"
+
 -- the length of the payload, the hops left, the place of a fragment, the verdicts on the checksums
--- of the IPv4 header and of the payload, and that the total length is 0
+-- of the IPv4 header and of the payload, and whether the length field says nothing
 unfoldable pub payload_text : Shown → List ℕ
 payload_text shown = codes " length " ++ (decimal (len_of shown.lax.slice) ++ (codes " hops "
     ++ (decimal (hops_of shown.lax.slice)
     ++ (codes " fragment " ++ (place_text shown.lax.slice.fragment
     ++ (codes " checksums " ++ (header_verdict_text shown.is_header_right ++ (codes " "
     ++ (verdict_text shown.verdict
-    ++ (if has_no_length shown.lax.slice then codes " total length 0" else []))))))))))
+    ++ (if has_no_length shown.lax.slice then no_length_text shown.lax.slice.header
+    else []))))))))))
 
 -- what is shown of a packet
 abbrev pub shown_text : Shown → List ℕ

@@ -1,12 +1,13 @@
 -- What is shown of a packet.
-use Rattle.std.specs.Prelude.{ℕ, ◌≡◌, ◌-◌, ◌≤◌, ◌==◌, ◌&&◌, ◌↔◌, ◌⊎◌, Bool, false, true, not}
+use Rattle.std.specs.Prelude.{ℕ, ◌≡◌, ◌-◌, ◌<◌, ◌≤◌, ◌==◌, ◌&&◌, ◌↔◌, ◌⊎◌, Bool, false, true, not}
 use Rattle.std.specs.Prelude.{IsTrue, List, MatchBool, MatchOption, Option, Some, None}
 use Rattle.std.specs.Prelude.{if◌then◌else◌, length, slice_index, slice_range}
 use Rattle.std.specs.Int.{from_be_bytes, w16}
 use Rattle.std.specs.Option.{is_none}
 use Rattle.etherparse.specs.WordSums.{SumsToAllOnes}
 use Rattle.packet_parts.specs.Checksum.{IsLaxVerdict}
-use Rattle.packet_parts.specs.IpSlice.{HasLaxIpParts, HasNoIpParts, header_len_of, packet_len_of}
+use Rattle.packet_parts.specs.IpSlice.{HasLaxIpParts, HasNoIpParts, HasWholeHeaders}
+use Rattle.packet_parts.specs.IpSlice.{header_len_of, packet_len_of}
 use Rattle.packet_parts.specs.declared.checksum.Verdict.TheVariants.{Absent, Wrong, Right}
 use Rattle.packet_parts.specs.declared.checksum.Verdict.{Verdict}
 use Rattle.packet_parts.specs.declared.ip_slice.IpHeaderSlice.{IpHeaderSlice}
@@ -29,7 +30,7 @@ hops_in (header.Ipv6 view) = slice_index view.slice.now 7
 abbrev pub hops_of : IpSlice → ℕ
 hops_of slice = hops_in slice.header
 
--- the total length is 0, and says nothing; in IPv6 it never is
+-- the length field is 0, and says nothing
 abbrev pub has_no_length : IpSlice → Bool
 has_no_length slice = packet_len_of slice.header == 0
 
@@ -102,10 +103,13 @@ pub record Shows (shown : Shown) : Type 0 where
   pub verdict : IsLaxVerdict shown.lax shown.verdict
 
 -- It is shown although it is not whole: its length field asks for more bytes than are there, but
--- for no more than there were before the capture left this many out; or its total length is 0.
+-- for no more than there were before the capture left this many out; or that field says nothing,
+-- and if no byte is left out, what there is ends within no extension header.
 abbrev pub IsShownAt : ℕ → LaxIpSlice → IpSliceError → Type 0
 IsShownAt left_out lax (error.Packet e) =
     (e.required_len - e.len ≤ left_out) ⊎ IsTrue (has_no_length lax.slice)
+IsShownAt left_out lax (error.Extensions e) = IsTrue (has_no_length lax.slice)
+    × ((0 < left_out) ⊎ HasWholeHeaders lax.slice.header lax.slice)
 IsShownAt left_out lax e = ⊥
 
 -- this is shown of a packet, of which the capture left this many bytes out

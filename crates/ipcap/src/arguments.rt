@@ -108,7 +108,7 @@ A line has these words:
   9 BYTES  10 hops  11 HOPS  12 fragment  13 PLACE  14 checksums  15 HEADER  16 PAYLOAD
 or after NUMBER and TIME `error:`, `other:` or `skipped:` and a reason. With --reassemble the line of
 the packet that completes a fragmented one is about the whole, and ends with `reassembled`. A line
-can also end with `total length 0` or `cut CAPTURED/ORIGINAL`.
+can also end with `total length 0` or `payload length 0`, and with `cut CAPTURED/ORIGINAL`.
 
 Examples:
   ipcap trace.pcap                           a line for each packet

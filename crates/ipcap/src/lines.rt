@@ -31,6 +31,7 @@ use packet_capture::capture::CaptureError;
 use packet_capture::file_format::{FileFormat, format_named};
 use packet_links::header::Carried;
 use packet_parts::fragment::Fragment;
+use packet_parts::ip_slice::IpHeaderSlice;
 use std::fmt;
 use std::fmt::Formatter;
 
@@ -316,7 +317,7 @@ fn write_parties<W: fmt::Write>(f: &mut Formatter<W>, shown: &Shown) -> fmt::Res
 }
 
 // Writes the length of a packet's payload, the hops left, the place of a fragment, the verdicts on
-// checksums, and that the total length is 0.
+// checksums, and whether the length field says nothing.
 #[tactic(auto, unfolding(crate::specs::Lines::payload_text))]
 fn write_payload<W: fmt::Write>(f: &mut Formatter<W>, shown: &Shown) -> fmt::Result
     ensures text { DisplaysOnOk W.write_str_gives f.old result
@@ -325,10 +326,10 @@ fn write_payload<W: fmt::Write>(f: &mut Formatter<W>, shown: &Shown) -> fmt::Res
     let slice = &shown.lax.slice;
     let (len, hops, place) = (len_of(slice), hops_of(slice), Place(slice.fragment));
     let (header, payload) = (HeaderVerdict(shown.is_header_right), shown.verdict);
-    let no_length = if has_no_length(slice) {
-        " total length 0"
-    } else {
-        ""
+    let no_length = match (has_no_length(slice), &slice.header) {
+        (false, _) => "",
+        (true, IpHeaderSlice::Ipv4(_)) => " total length 0",
+        (true, IpHeaderSlice::Ipv6(_)) => " payload length 0",
     };
     write!(
         f,

@@ -5,7 +5,7 @@ ghost use Rattle.ipcap.specs.Shown.{IsShownAt};
 ghost use Rattle.ipcap.specs.Reading.{ReadsFrame, ReadsNumbered, ReadsPacket, is_cut, left_out};
 ghost use Rattle.ipcap.specs.Reading.{max_len};
 
-use crate::shown::{Shown, has_no_length, shown_of};
+use crate::shown::{Shown, has_no_length, has_whole_headers, shown_of};
 use packet::link::{LinkSlice, LinkType};
 use packet::link_layers::LinkLayers;
 use packet_capture::any::{Capture, PacketHead};
@@ -135,8 +135,9 @@ fn read_packet(left_out: usize, packet: &[u8]) -> Reading
     }
 }
 
-// Whether a packet is shown: it is whole; or its length field asks for no more bytes than there were
-// before the capture left some out; or its total length is 0.
+// Whether a packet is shown: it is whole; or its length field asks for no more bytes than there
+// were before the capture left some out; or that field says nothing, and either bytes were left out
+// or what there is ends within no extension header.
 fn is_shown(left_out: usize, lax: &LaxIpSlice) -> bool
     ensures value { IsTrue result ↔ MatchOption lax.now.stop (Unit {0}) (IsShownAt left_out lax.now) }
 {
@@ -144,6 +145,9 @@ fn is_shown(left_out: usize, lax: &LaxIpSlice) -> bool
         None => true,
         Some(IpSliceError::Packet(e)) => {
             e.required_len.saturating_sub(e.len) <= left_out || has_no_length(&lax.slice)
+        }
+        Some(IpSliceError::Extensions(_)) => {
+            has_no_length(&lax.slice) && (left_out > 0 || has_whole_headers(&lax.slice))
         }
         Some(_) => false,
     }

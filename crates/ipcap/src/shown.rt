@@ -1,11 +1,12 @@
 //! What is shown of a packet.
 
-ghost use Rattle.std.specs.Prelude.{◌≡◌, ◌≢◌};
+ghost use Rattle.std.specs.Prelude.{◌≡◌, ◌≢◌, ◌↔◌, IsTrue};
 ghost use Rattle.ipcap.specs.Shown.{IsDetail, IsHeaderDetail, IsHeaderVerdict, Shows};
 ghost use Rattle.ipcap.specs.Shown.{has_no_length, has_whole_payload, hops_of, len_of};
+ghost use Rattle.packet_parts.specs.IpSlice.{HasWholeHeaders};
 
-use etherparse::IpNumber;
 use etherparse::checksum::u64_16bit_word;
+use etherparse::{IpNumber, Ipv6Header};
 use etherparse_transport::{TcpHeaderSlice, UdpHeader};
 use packet_parts::checksum::Verdict;
 use packet_parts::ip_slice::{IpHeaderSlice, IpSlice, LaxIpSlice};
@@ -82,11 +83,23 @@ pub fn len_of(slice: &IpSlice) -> usize
     }
 }
 
-/// Whether the total length is 0, and says nothing.
+/// Whether the length field is 0, and says nothing.
 pub fn has_no_length(slice: &IpSlice) -> bool
     ensures value { result ≡ has_no_length slice.now }
 {
     slice.header.packet_len() == 0
+}
+
+/// Whether what there is of the packet ends within no extension header.
+pub fn has_whole_headers(slice: &IpSlice) -> bool
+    ensures value { IsTrue result ↔ HasWholeHeaders slice.now.header slice.now }
+{
+    match slice.header {
+        IpHeaderSlice::Ipv4(_) => true,
+        IpHeaderSlice::Ipv6(_) => {
+            slice.is_later_fragment || !Ipv6Header::is_skippable_header_extension(slice.upper)
+        }
+    }
 }
 
 // What is shown of the header that the payload begins with, which goes on elsewhere if it is not

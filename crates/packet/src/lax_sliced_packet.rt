@@ -14,7 +14,7 @@ use etherparse_link::EtherType;
 use packet_parts::checksum::{Absence, Verdict};
 
 /// The layers of a frame, as far as they can be read: of one that a capture cut, of one that is
-/// damaged, or of a packet whose sender left its length to the network card.
+/// damaged, of a packet whose sender left its length to the network card, or of a jumbogram.
 #[derive(Clone, Debug, PartialEq, Eq, Drop)]
 pub struct LaxSlicedPacket<'a> {
     /// The layers. If the frame ends within a VLAN tag, `ether_type` is that of the tag, and

@@ -62,7 +62,7 @@ use Rattle.packet_builder.specs.declared.headers.LinkHeader.{LinkHeader}
 use Rattle.packet_builder.specs.declared.headers.LinkHeader.TheVariants as link
 use Rattle.packet_builder.specs.declared.headers.VlanHeader.{VlanHeader}
 use Rattle.packet_builder.specs.declared.headers.VlanHeader.TheVariants as vlan
-use Rattle.packet_parts.proofs.IpPackets.{ipv4_bytes-told, ipv6_bytes-short}
+use Rattle.packet_parts.proofs.IpPackets.{ipv4_bytes-told, ipv6_bytes-short, ipv6_packet_len-told, other-told}
 use Rattle.packet_parts.proofs.IpParts.{packet_len_4, packet_len_6}
 use Rattle.packet_parts.specs.Checksum.{Covers, IsVerdict, IsVerdictOver, IsWithoutChecksum, ipv4_pieces, ipv6_pseudo_header, udp_checksum, udp_length}
 use Rattle.packet_parts.specs.Extensions.{at_front}
@@ -213,7 +213,8 @@ is_net (ip.Ipv6 given) (ip.Ipv6 made) protocol bytes upper is before alone other
     let all = bytes ++ upper in
     let payload : made.payload_length ≡ length upper = ap (λ h. h.payload_length) before in
     let first : made.next_header ≡ protocol = ap (λ h. h.next_header) before in
-    let len = packet_len_6 (view_6 made bytes is) made bytes is refl in
+    let some = other-told made.payload_length made.next_header (rw (sym first) at other) in
+    let len = packet_len_6 (view_6 made bytes is) made bytes is refl ∙ ipv6_packet_len-told made.payload_length made.next_header some in
     record {
       parts = record {
         header = made;

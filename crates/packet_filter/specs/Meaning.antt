@@ -196,8 +196,9 @@ abbrev pub ip_bytes : IpSlice → List ℕ
 ip_bytes ip = header_bytes ip.header ++ (ip.extensions.now ++ ip.payload.now)
 
 -- The bytes that a load counts from the first on: of the frame, from its Ethernet header on, its
--- tags included; of the IP packet, as far as its length field says; of all that follows an
--- EtherType; of the payload of an IP packet that is no later fragment, which begins with no header.
+-- tags included; of the IP packet, as far as its length field says, if it does; of all that follows
+-- an EtherType; of the payload of an IP packet that is no later fragment, which begins with no
+-- header.
 abbrev pub Loads : Layer → SlicedPacket → List ℕ → Type 0
 Loads layer.Ether packet bytes = IsSomeAnd (ethernet_header packet.link)
     (λ front. bytes ≡ front ++ (concat (tags_of packet.vlan) ++ packet.payload.now))

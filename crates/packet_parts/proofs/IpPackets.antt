@@ -1,5 +1,5 @@
 -- What there is of a packet, by its length field.
-use Rattle.std.proofs.Common.{ℕ, ◌≡◌, ◌≢◌, ◌+◌, ◌<◌, ◌≤◌, ◌∙◌, ◌++◌, Bool, List, MatchOption, Option, None, Some, Ok, Err, ap, arith, false, inl, inr, length, option_map, refl, sym, true}
+use Rattle.std.proofs.Common.{ℕ, ◌≡◌, ◌≢◌, ◌+◌, ◌<◌, ◌≤◌, ◌∙◌, ◌++◌, Bool, List, MatchOption, Option, None, Some, Ok, Err, ap, arith, false, inl, inr, length, if◌then◌else◌, option_map, refl, sym, true}
 use Rattle.std.proofs.lemmas.List.{take_all}
 use Rattle.std.proofs.lemmas.Bool.Decides.{nat_tests}
 use Rattle.std.specs.Prelude.{take, IsTrue, ◌⊎◌}
@@ -15,7 +15,7 @@ use Rattle.etherparse.specs.declared.net.ipv6_header.Ipv6Header.{Ipv6Header}
 use Rattle.etherparse.specs.declared.net.ipv6_header_slice.Ipv6HeaderSlice.{Ipv6HeaderSlice}
 use Rattle.packet_parts.specs.Extensions.{EndsAs}
 use Rattle.packet_parts.proofs.IpParts.{cut_front, packet_len_4, packet_len_6}
-use Rattle.packet_parts.specs.IpSlice.{HasIpParts, HasLaxIpParts, IsWhole, RefusesIp, extension_error, ipv4_bytes, ipv6_bytes}
+use Rattle.packet_parts.specs.IpSlice.{HasIpParts, HasLaxIpParts, IsWhole, RefusesIp, extension_error, ipv4_bytes, ipv6_bytes, ipv6_packet_len, ipv6_trimmed, says_no_length}
 use Rattle.etherparse_net.specs.declared.ipv6_fragment_header.Ipv6FragmentHeader.{Ipv6FragmentHeader}
 use Rattle.packet_parts.specs.declared.ip_slice.IpHeaderSlice.TheVariants as version
 use Rattle.packet_parts.specs.declared.ip_slice.IpSlice.{IpSlice}
@@ -72,17 +72,36 @@ module _ (packet : List ℕ) (view : Ipv4HeaderSlice) (f : HasFront IsIpv4Layout
         stop = record { told = rw of_view (λ zero. some (sym len ∙ zero)); enough = rw of_view (omega (arith, len, enough)); headers = rw of_view tt };
       })
 
+-- an IPv6 packet is as long as its payload length says, if that says something
+says : (p n : ℕ) → ipv6_packet_len p n ≢ 0 → says_no_length p n ≡ false
+says p n = elim (says_no_length p n) as (λ b. (if b then 0 else 40 + p) ≢ 0 → b ≡ false) [ true ↦ λ some. absurd (some refl) | false ↦ λ some. refl ]
+
+pub says_nothing : (p n : ℕ) → ipv6_packet_len p n ≡ 0 → (p ≡ 0) × (n ≡ 0) × (says_no_length p n ≡ true)
+says_nothing p n none = (grind (arith, nat_tests, none), grind (arith, nat_tests, none), grind (arith, nat_tests, none))
+
+pub other-told : (p n : ℕ) → ¬ IsSkippable n → ipv6_packet_len p n ≢ 0
+other-told p n other none = other (inl (says_nothing p n none).1)
+
+pub ipv6_packet_len-told : (p n : ℕ) → ipv6_packet_len p n ≢ 0 → ipv6_packet_len p n ≡ 40 + p
+ipv6_packet_len-told p n some = rw (says p n some) refl
+
+pub ipv6_bytes-told : (header : Ipv6Header) (s : List ℕ) → ipv6_packet_len header.payload_length header.next_header ≢ 0 → ipv6_trimmed header s ≡ ipv6_bytes header s
+ipv6_bytes-told header s some = rw (says header.payload_length header.next_header some) refl
+
 -- all of a packet that is shorter than its payload length says
 pub ipv6_bytes-short : (header : Ipv6Header) (s : List ℕ) → length s ≤ 40 + header.payload_length → ipv6_bytes header s ≡ s
-ipv6_bytes-short header s short = take_all _ s short
+ipv6_bytes-short header s short = elim (says_no_length header.payload_length header.next_header) as (λ b. (if b then s else ipv6_trimmed header s) ≡ s) [
+  | true ↦ refl
+  | false ↦ take_all _ s short
+]
 
 -- a packet with all its bytes is whole, or it is refused since an extension header is incomplete
 module _ (packet rest : List ℕ) (view : Ipv6HeaderSlice) (header : Ipv6Header) (slice : IpSlice) (decided : Option Ipv6FragmentHeader)
     (begins : BeginsWith IsIpv6Layout (ipv6_bytes header packet) header rest) (viewed : begins.front ≡ view.slice.now) (of_view : slice.header ≡ version.Ipv6 view)
-    (enough : 40 + header.payload_length ≤ length packet) where
+    (told : ipv6_packet_len header.payload_length header.next_header ≢ 0) (enough : 40 + header.payload_length ≤ length packet) where
   whole : IsTrue slice.is_later_fragment ⊎ ¬ IsSkippable slice.upper → IsWhole packet slice
   whole headers =
-      let len = packet_len_6 view header begins.front begins.layout viewed in
+      let len = packet_len_6 view header begins.front begins.layout viewed ∙ ipv6_packet_len-told header.payload_length header.next_header told in
       record { told = rw of_view (λ zero. omega (arith, len, zero)); enough = rw of_view (omega (arith, len, enough)); headers = rw of_view headers }
 
   ended : (later : Bool) (incomplete : Option LenError) (stop : Option IpSliceError) → slice.is_later_fragment ≡ later
@@ -94,7 +113,7 @@ module _ (packet rest : List ℕ) (view : Ipv6HeaderSlice) (header : Ipv6Header)
     header = header;
     body = rest;
     enough = enough;
-    begins = begins;
+    begins = record { front = begins.front; whole = ipv6_bytes-told header packet told ∙ begins.whole; layout = begins.layout };
     fragment = decided;
     number = slice.upper;
     rest = slice.payload.now;

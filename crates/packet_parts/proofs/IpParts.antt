@@ -17,7 +17,7 @@ use Rattle.etherparse.specs.declared.net.ipv6_header.Ipv6Header.{Ipv6Header}
 use Rattle.etherparse.specs.declared.net.ipv6_header_slice.Ipv6HeaderSlice.{Ipv6HeaderSlice}
 use Rattle.packet_parts.proofs.ExtensionEnds.{one_end, same_beginning}
 use Rattle.packet_parts.specs.Extensions.{EndsAs}
-use Rattle.packet_parts.specs.IpSlice.{HasIpParts, HasIpv4Parts, HasIpv6Parts, HasPartsWith, Ipv4Bytes, Ipv6Bytes, header_parts, ip_parts, ipv4_bytes, ipv4_fragment_of, ipv6_bytes, packet_len_of, placed}
+use Rattle.packet_parts.specs.IpSlice.{HasIpParts, HasIpv4Parts, HasIpv6Parts, HasPartsWith, Ipv4Bytes, Ipv6Bytes, header_parts, ip_parts, ipv4_bytes, ipv4_fragment_of, ipv6_bytes, ipv6_packet_len, ipv6_trimmed, packet_len_of, placed, says_no_length}
 use Rattle.packet_parts.specs.declared.ip_slice.IpHeaderSlice.{IpHeaderSlice}
 use Rattle.packet_parts.specs.declared.ip_slice.IpHeaderSlice.TheVariants as header
 use Rattle.packet_parts.specs.declared.ip_slice.IpSlice.{IpSlice}
@@ -40,8 +40,14 @@ ipv4_front h s = elim (h.total_len == 0) as (λ b. (more : List ℕ) × (s ≡ (
   | false ↦ (drop h.total_len s, sym (take-append-drop h.total_len s))
 ]
 
+pub trimmed_front : (h : Ipv6Header) (s : List ℕ) → (more : List ℕ) × (s ≡ ipv6_trimmed h s ++ more)
+trimmed_front h s = (drop (40 + h.payload_length) s, sym (take-append-drop (40 + h.payload_length) s))
+
 pub ipv6_front : (h : Ipv6Header) (s : List ℕ) → (more : List ℕ) × (s ≡ ipv6_bytes h s ++ more)
-ipv6_front h s = (drop (40 + h.payload_length) s, sym (take-append-drop (40 + h.payload_length) s))
+ipv6_front h s = elim (says_no_length h.payload_length h.next_header) as (λ b. (more : List ℕ) × (s ≡ (if b then s else ipv6_trimmed h s) ++ more)) [
+  | true ↦ ([], sym (append-nil s))
+  | false ↦ trimmed_front h s
+]
 
 -- a slice with a header has its version, and bytes
 pub is_version_4 : (s : List ℕ) (h : Ipv4Header) (x : List ℕ) → BeginsWith IsIpv4Layout s h x → version_of s ≡ 4
@@ -62,8 +68,8 @@ cut_front s front rest n len whole sum = ap (take len) whole ∙ rw (sym sum) (t
 pub packet_len_4 : (view : Ipv4HeaderSlice) (h : Ipv4Header) (front : List ℕ) → IsIpv4Layout h front → front ≡ view.slice.now → packet_len_of (header.Ipv4 view) ≡ h.total_len
 packet_len_4 view h front l e = rw e at l.layout.total_len
 
-pub packet_len_6 : (view : Ipv6HeaderSlice) (h : Ipv6Header) (front : List ℕ) → IsIpv6Layout h front → front ≡ view.slice.now → packet_len_of (header.Ipv6 view) ≡ 40 + h.payload_length
-packet_len_6 view h front l e = ap (λ n. 40 + n) (rw e at l.payload_length)
+pub packet_len_6 : (view : Ipv6HeaderSlice) (h : Ipv6Header) (front : List ℕ) → IsIpv6Layout h front → front ≡ view.slice.now → packet_len_of (header.Ipv6 view) ≡ ipv6_packet_len h.payload_length h.next_header
+packet_len_6 view h front l e = rw (← e, l.payload_length, l.next_header) refl
 
 -- a packet that has parts begins with their header
 pub begins_4 : (s bytes : List ℕ) (a : IpSlice) (p : HasIpv4Parts s bytes a) → BeginsWith IsIpv4Layout s p.header (a.payload.now ++ (ipv4_front p.header s).0)

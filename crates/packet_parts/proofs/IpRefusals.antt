@@ -17,9 +17,10 @@ use Rattle.etherparse.specs.declared.net.ipv6_header.Ipv6Header.{Ipv6Header as H
 use Rattle.etherparse.specs.declared.net.ipv6_header_slice.Ipv6HeaderSlice.{Ipv6HeaderSlice}
 use Rattle.etherparse.specs.ExtensionHeaders.{IsSkippable}
 use Rattle.packet_parts.proofs.ExtensionEnds.{one_end, same_beginning}
-use Rattle.packet_parts.proofs.IpParts.{begins_4, begins_6, ipv6_front, is_version_4, is_version_6, longer, packet_len_4, packet_len_6, same_cut_beginning, same_parts}
+use Rattle.packet_parts.proofs.IpParts.{begins_4, begins_6, is_version_4, is_version_6, longer, packet_len_4, packet_len_6, same_cut_beginning, same_parts, trimmed_front}
+use Rattle.packet_parts.proofs.IpPackets.{ipv6_bytes-told, ipv6_packet_len-told}
 use Rattle.packet_parts.specs.Extensions.{EndsAs}
-use Rattle.packet_parts.specs.IpSlice.{EndsInExtensions, HasIpParts, HasIpv4Parts, HasIpv6Parts, HasLaxIpParts, HasNoIpParts, HasPartsWith, HasWholeHeaders, IsWhole, ReadsIp, ReadsLaxIp, RefusesIp, extension_error, ip_answer, ip_parts, ipv4_bytes, ipv6_bytes, lax_ip_answer, packet_len_of}
+use Rattle.packet_parts.specs.IpSlice.{EndsInExtensions, HasIpParts, HasIpv4Parts, HasIpv6Parts, HasLaxIpParts, HasNoIpParts, HasPartsWith, HasWholeHeaders, IsWhole, ReadsIp, ReadsLaxIp, RefusesIp, extension_error, ip_answer, ip_parts, ipv4_bytes, ipv6_packet_len, ipv6_trimmed, lax_ip_answer, packet_len_of}
 use Rattle.packet_parts.specs.declared.ip_slice.IpHeaderSlice.{IpHeaderSlice}
 use Rattle.packet_parts.specs.declared.ip_slice.IpHeaderSlice.TheVariants as header
 use Rattle.packet_parts.specs.declared.ip_slice.IpSlice.{IpSlice}
@@ -30,7 +31,7 @@ use Rattle.packet_parts.specs.declared.ip_slice.IpSliceError.TheVariants.{Empty,
 -- an extension header is incomplete in one way
 same_extensions : (s : List ℕ) (e f : LenError) → EndsInExtensions s e → EndsInExtensions s f → e ≡ f
 same_extensions s e f p q =
-    let same = same_cut_beginning IsIpv6Layout RefusesIpv6 tells_ipv6 ipv6_bytes ipv6_front s p.header q.header p.body q.body p.begins q.begins in
+    let same = same_cut_beginning IsIpv6Layout RefusesIpv6 tells_ipv6 ipv6_trimmed trimmed_front s p.header q.header p.body q.body p.begins q.begins in
     let ends : EndsAs false (Some p.inside) q.body q.header.next_header p.fragment p.number p.rest = subst (λ z. EndsAs false (Some p.inside) z q.header.next_header p.fragment p.number p.rest) same.1
     (subst (λ k. EndsAs false (Some p.inside) p.body k.next_header p.fragment p.number p.rest) same.0 p.ends) in
     let inside : p.inside ≡ q.inside = let end = (one_end q.body q.header.next_header false false (Some p.inside) (Some q.inside) p.fragment q.fragment p.number q.number p.rest q.rest ends q.ends).incomplete in cc in
@@ -116,7 +117,7 @@ reason s (Packet e) (inr (inr r)) = inr (inr (record {
   is = inl (r.short, ap Packet r.error);
 }))
 reason s (Extensions e) r =
-    let begins = longer IsIpv6Layout s _ _ r.header r.body (ipv6_front r.header s).1 r.begins in
+    let begins = longer IsIpv6Layout s _ _ r.header r.body (trimmed_front r.header s).1 r.begins in
     inr (inr (record {
       some = omega (arith, r.enough);
       version = is_version_6 s r.header _ begins;
@@ -198,22 +199,26 @@ whole_4 s view a e p told enough r =
     let fits = header_4_told s p.header a.payload.now p.begins (λ zero. told (is ∙ zero)) in
     elim (fails_4 s p.header _ e (begins_4 s _ a p) r) [ inl less ↦ omega (arith, fits, less) | inr short ↦ omega (arith, is, enough, short) ]
 
-whole_6 : (s : List ℕ) (view : Ipv6HeaderSlice) (a : IpSlice) (e : IpSliceError) → HasIpv6Parts s view.slice.now a → packet_len_of (header.Ipv6 view) ≤ length s
-    → IsTrue a.is_later_fragment ⊎ ¬ IsSkippable a.upper → RefusesIp s e → ⊥
-whole_6 s view a e p enough headers r = elim (fails_6 s p.header _ e (begins_6 s _ a p) r) [
-  | inl short ↦ omega (arith, packet_len_6 view p.header p.begins.front p.begins.layout p.view, enough, short.0)
-  | inr (y, within, q, is) ↦
-      let same = same_cut_beginning IsIpv6Layout RefusesIpv6 tells_ipv6 ipv6_bytes ipv6_front s p.header q.header p.body q.body p.begins q.begins in
-      let ends : EndsAs a.is_later_fragment p.incomplete q.body q.header.next_header p.decided a.upper a.payload.now =
-      subst (λ z. EndsAs a.is_later_fragment p.incomplete z q.header.next_header p.decided a.upper a.payload.now) same.1
-      (subst (λ k. EndsAs a.is_later_fragment p.incomplete p.body k.next_header p.decided a.upper a.payload.now) same.0 p.ends) in
-      let end = one_end q.body q.header.next_header a.is_later_fragment false p.incomplete (Some q.inside) p.decided q.fragment a.upper q.number a.payload.now q.rest ends q.ends in
-      elim headers [ inl later ↦ let no : IsTrue false = subst IsTrue end.later later in cc | inr other ↦ other (subst IsSkippable (sym end.number) q.ends.0.skippable) ]
-]
+whole_6 : (s : List ℕ) (view : Ipv6HeaderSlice) (a : IpSlice) (e : IpSliceError) → HasIpv6Parts s view.slice.now a → packet_len_of (header.Ipv6 view) ≢ 0
+    → packet_len_of (header.Ipv6 view) ≤ length s → IsTrue a.is_later_fragment ⊎ ¬ IsSkippable a.upper → RefusesIp s e → ⊥
+whole_6 s view a e p told enough headers r =
+    let len = packet_len_6 view p.header p.begins.front p.begins.layout p.view in
+    let some : ipv6_packet_len p.header.payload_length p.header.next_header ≢ 0 = λ zero. told (len ∙ zero) in
+    elim (fails_6 s p.header _ e (begins_6 s _ a p) r) [
+      | inl short ↦ omega (arith, len, ipv6_packet_len-told p.header.payload_length p.header.next_header some, enough, short.0)
+      | inr (y, within, q, is) ↦
+          let trimmed : BeginsWith IsIpv6Layout (ipv6_trimmed p.header s) p.header p.body = record { front = p.begins.front; whole = ipv6_bytes-told p.header s some ∙ p.begins.whole; layout = p.begins.layout } in
+          let same = same_cut_beginning IsIpv6Layout RefusesIpv6 tells_ipv6 ipv6_trimmed trimmed_front s p.header q.header p.body q.body trimmed q.begins in
+          let ends : EndsAs a.is_later_fragment p.incomplete q.body q.header.next_header p.decided a.upper a.payload.now =
+          subst (λ z. EndsAs a.is_later_fragment p.incomplete z q.header.next_header p.decided a.upper a.payload.now) same.1
+          (subst (λ k. EndsAs a.is_later_fragment p.incomplete p.body k.next_header p.decided a.upper a.payload.now) same.0 p.ends) in
+          let end = one_end q.body q.header.next_header a.is_later_fragment false p.incomplete (Some q.inside) p.decided q.fragment a.upper q.number a.payload.now q.rest ends q.ends in
+          elim headers [ inl later ↦ let no : IsTrue false = subst IsTrue end.later later in cc | inr other ↦ other (subst IsSkippable (sym end.number) q.ends.0.skippable) ]
+    ]
 
 whole_after : (s : List ℕ) (a : IpSlice) (h : IpHeaderSlice) (e : IpSliceError) → HasPartsWith h s a → packet_len_of h ≢ 0 → packet_len_of h ≤ length s → HasWholeHeaders h a → RefusesIp s e → ⊥
 whole_after s a (header.Ipv4 view) e p told enough headers r = whole_4 s view a e p told enough r
-whole_after s a (header.Ipv6 view) e p told enough headers r = whole_6 s view a e p enough headers r
+whole_after s a (header.Ipv6 view) e p told enough headers r = whole_6 s view a e p told enough headers r
 
 pub whole_not_refused : (s : List ℕ) (a : IpSlice) (e : IpSliceError) → HasIpParts s a → IsWhole s a → RefusesIp s e → ⊥
 whole_not_refused s a e p whole r = whole_after s a a.header e p whole.told whole.enough whole.headers r

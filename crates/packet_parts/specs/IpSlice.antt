@@ -1,9 +1,9 @@
 -- The parts of an IP packet of either version (RFC 791 section 3.1, RFC 8200 section 3), as far as
--- its length field says and its bytes are there.
-use Rattle.std.specs.Prelude.{ℕ, ◌≡◌, ◌≢◌, ◌+◌, ◌*◌, ◌<◌, ◌≤◌, ◌==◌, ◌||◌, ◌⊎◌, Bool, false, not}
+-- its length field says, if it says something, and its bytes are there.
+use Rattle.std.specs.Prelude.{ℕ, ◌≡◌, ◌≢◌, ◌+◌, ◌*◌, ◌<◌, ◌≤◌, ◌==◌, ◌||◌, ◌&&◌, ◌⊎◌, Bool, false}
 use Rattle.std.specs.Prelude.{IsTrue, List, [], ◌++◌, length, take, Result, Ok, Err, MatchOption}
 use Rattle.std.specs.Prelude.{Option, Some, None, codes, decimal, if◌then◌else◌, option_map}
-use Rattle.std.specs.Prelude.{slice_range}
+use Rattle.std.specs.Prelude.{not, slice_index, slice_range}
 use Rattle.std.specs.Int.{from_be_bytes, w16}
 use Rattle.std.specs.Result.{result_map_both}
 use Rattle.std.specs.Net.Addr.{ipv4_octets, ipv6_segments, segments_of}
@@ -41,20 +41,39 @@ use Rattle.packet_parts.specs.declared.ip_slice.LaxIpSlice.{LaxIpSlice}
 abbrev pub ipv4_bytes : Ipv4Header → List ℕ → List ℕ
 ipv4_bytes header s = if header.total_len == 0 then s else take header.total_len s
 
--- what there is of an IPv6 packet: the bytes as far as its payload length says
+-- an IPv6 packet as far as its payload length says, taken as it stands
+abbrev pub ipv6_trimmed : Ipv6Header → List ℕ → List ℕ
+ipv6_trimmed header s = take (40 + header.payload_length) s
+
+-- A payload length of 0 says nothing if hop-by-hop options (0) follow, which have 8 bytes at least:
+-- it is 0 in a jumbogram, whose length is in one of these options (RFC 2675 section 3).
+abbrev pub says_no_length : ℕ → ℕ → Bool
+says_no_length payload_length next_header = payload_length == 0 && next_header == 0
+
+-- What there is of an IPv6 packet: the bytes as far as its payload length says, or if that says
+-- nothing, all bytes.
 abbrev pub ipv6_bytes : Ipv6Header → List ℕ → List ℕ
-ipv6_bytes header s = take (40 + header.payload_length) s
+ipv6_bytes header s =
+    if says_no_length header.payload_length header.next_header then s
+    else ipv6_trimmed header s
 
 -- the bytes of the header
 abbrev pub header_bytes : IpHeaderSlice → List ℕ
 header_bytes (header.Ipv4 view) = view.slice.now
 header_bytes (header.Ipv6 view) = view.slice.now
 
+-- how long an IPv6 packet is by its payload length; 0 if that says nothing
+abbrev pub ipv6_packet_len : ℕ → ℕ → ℕ
+ipv6_packet_len payload_length next_header =
+    if says_no_length payload_length next_header then 0 else 40 + payload_length
+
 -- How long the packet is by its length field: the total length is in bytes 2 and 3 of the header
--- (RFC 791 section 3.1), the payload length in bytes 4 and 5 (RFC 8200 section 3).
+-- (RFC 791 section 3.1), the payload length in bytes 4 and 5, before the next header (RFC 8200
+-- section 3). If the field says nothing, it is 0.
 abbrev pub packet_len_of : IpHeaderSlice → ℕ
 packet_len_of (header.Ipv4 view) = from_be_bytes w16 (slice_range view.slice.now 2 4)
-packet_len_of (header.Ipv6 view) = 40 + from_be_bytes w16 (slice_range view.slice.now 4 6)
+packet_len_of (header.Ipv6 view) = ipv6_packet_len
+    (from_be_bytes w16 (slice_range view.slice.now 4 6)) (slice_index view.slice.now 6)
 
 -- the place of a fragment, whose offset is in units of 8 bytes (RFC 791 section 3.1)
 abbrev pub ipv4_fragment_of : Ipv4Header → Option Fragment
@@ -164,12 +183,13 @@ abbrev pub extension_error : LenError → LenError
 extension_error inside =
     record (len_error_moved 40 inside) { len_source = source.Ipv6HeaderPayloadLen }
 
--- the packet has all its bytes, and ends within an extension header
+-- the packet has all bytes that its payload length says, taken as it stands, and trimmed there it
+-- ends within an extension header
 pub record EndsInExtensions (packet : List ℕ) (e : LenError) : Type 0 where
   pub header : Ipv6Header
   pub body : List ℕ
   pub enough : 40 + header.payload_length ≤ length packet
-  pub begins : BeginsWith IsIpv6Layout (ipv6_bytes header packet) header body
+  pub begins : BeginsWith IsIpv6Layout (ipv6_trimmed header packet) header body
   pub fragment : Option Ipv6FragmentHeader
   pub number : ℕ
   pub rest : List ℕ
@@ -199,7 +219,7 @@ pub record StatesLessThanHeader (packet : List ℕ) (e : LenError) : Type 0 wher
   pub some : states.header.total_len ≢ 0
 
 -- why there are no parts at all: for each of these reasons, but not for a missing end, an
--- incomplete extension header, or a total length of 0
+-- incomplete extension header, or a length field that says nothing
 abbrev pub HasNoIpParts : List ℕ → IpSliceError → Type 0
 HasNoIpParts packet (error.Packet e) = StatesLessThanHeader packet e
 HasNoIpParts packet (error.Extensions e) = ⊥

@@ -53,7 +53,7 @@ pub enum Absence {
     OtherProtocol,
     /// Not all the bytes that it covers are there: fewer than 8 of UDP, 20 of TCP or 4 of ICMP, or
     /// than the length field of UDP says; or that field is below 8. Or the packet is not whole, or
-    /// its total length of 0 does not say where the payload ends.
+    /// its length field of 0 does not say where the payload ends.
     Incomplete,
     /// The sender has computed none: the field of UDP over IPv4 is 0 (RFC 768).
     NotComputed,

@@ -1,6 +1,6 @@
 //! IP packets of either version, sliced into their parts.
 
-ghost use Rattle.std.specs.Prelude.{ℕ, ◌≡◌, ◌+◌, ◌<◌, ◌≤◌, ◌^◌, List, ◌++◌, IfErr, IfOk, IfSome};
+ghost use Rattle.std.specs.Prelude.{ℕ, ◌≡◌, ◌≢◌, ◌+◌, ◌<◌, ◌≤◌, ◌^◌, List, ◌++◌, IfErr, IfOk, IfSome};
 ghost use Rattle.std.specs.Prelude.{MatchOption, Some, length, option_map};
 ghost use Rattle.etherparse.specs.FirstByte.{version_of};
 ghost use Rattle.etherparse.specs.Ipv4Header.{IsIpv4Layout, OfIpv4Header};
@@ -11,7 +11,7 @@ ghost use Rattle.etherparse.specs.declared.net.ipv6_header.Ipv6Header.{Ipv6Heade
 ghost use Rattle.packet_parts.specs.IpSlice.{HasIpParts, HasLaxIpParts, HasNoIpParts, IsWhole};
 ghost use Rattle.packet_parts.specs.IpSlice.{ReadsIp, ReadsLaxIp, RefusesIp, ip_slice_error_text};
 ghost use Rattle.packet_parts.specs.IpSlice.{extension_error, ipv4_bytes, ipv4_fragment_of};
-ghost use Rattle.packet_parts.specs.IpSlice.{ipv6_bytes, placed};
+ghost use Rattle.packet_parts.specs.IpSlice.{ipv6_bytes, ipv6_packet_len, packet_len_of, placed};
 ghost use Rattle.packet_parts.specs.declared.ip_slice.IpHeaderSlice.TheVariants as Header;
 ghost use Rattle.packet_parts.specs.declared.ip_slice.IpSliceError.TheVariants as Stop;
 
@@ -36,8 +36,8 @@ pub enum IpHeaderSlice<'a> {
     Ipv6(Ipv6HeaderSlice<'a>),
 }
 
-/// The parts of an IP packet, trimmed at its length field: what comes after the packet is in none
-/// of them.
+/// The parts of an IP packet, trimmed at its length field, if that says something: what comes after
+/// the packet is in none of them.
 #[derive(Clone, Copy, Debug, PartialEq, Eq)]
 pub struct IpSlice<'a> {
     /// The header.
@@ -112,8 +112,9 @@ pub struct LaxIpSlice<'a> {
     /// that is in the place of the payload, with its number.
     pub slice: IpSlice<'a>,
     /// Why [`IpSlice::from_slice`] refuses the packet: `Packet` or `Extensions`; `None` if it does
-    /// not. With `Packet` for a total length of 0, as a host writes it if its network card cuts
-    /// long packets (segmentation offload), the payload is all that follows the header.
+    /// not. If the length field says nothing ([`IpHeaderSlice::packet_len`] is 0), the parts are of
+    /// all bytes: with `Packet` for a total length of 0, with `Extensions` for a payload length of 0
+    /// before hop-by-hop options.
     pub stop: Option<IpSliceError>,
 }
 
@@ -131,15 +132,16 @@ impl<'a> IpHeaderSlice<'a> {
         }
     }
 
-    /// How long the packet is by its length field, in bytes and with the header: a payload length
-    /// of 0 gives 40. A total length of 0, which gives 0, says nothing: a host writes it if its
-    /// network card cuts long packets (segmentation offload).
+    /// How long the packet is by its length field, in bytes and with the header; 0 if the field says
+    /// nothing. That is a total length of 0, which a host writes if its network card cuts long
+    /// packets (segmentation offload), and a payload length of 0 before hop-by-hop options, as in a
+    /// jumbogram (RFC 2675 section 3). Any other payload length of 0 gives 40.
     pub fn packet_len(&self) -> usize
         ensures value { result ≡ packet_len_of self.now }
     {
         match self {
             IpHeaderSlice::Ipv4(view) => usize::from(view.total_len()),
-            IpHeaderSlice::Ipv6(view) => Ipv6Header::LEN + usize::from(view.payload_length()),
+            IpHeaderSlice::Ipv6(view) => ipv6_packet_len(view),
         }
     }
 }
@@ -156,7 +158,7 @@ impl<'a> IpSlice<'a> {
     /// The parts of the packet at the front of a slice.
     ///
     /// A payload length of 0 is taken as it stands: a jumbogram (RFC 2675 section 3) is refused,
-    /// since its options are not within it.
+    /// since its options are beyond that length. [`LaxIpSlice`] has its parts.
     ///
     /// # Errors
     ///
@@ -284,6 +286,7 @@ impl<'a> LaxIpSlice<'a> {
     /// // A total length of 0: the payload is all that there is.
     /// packet[3] = 0;
     /// let lax = LaxIpSlice::from_slice(&packet)?;
+    /// assert!(rt; lax.slice.header.packet_len() == 0);
     /// assert!(rt; lax.slice.payload.len() == 8 && lax.stop.is_some());
     /// ```
     #[inline(always)]
@@ -399,7 +402,10 @@ fn ipv6_slice(packet: &[u8]) -> Result<LaxIpSlice, IpSliceError>
         Ok(header) => header,
         Err(e) => return Err(IpSliceError::Ipv6Header(e)),
     };
-    let len = Ipv6Header::LEN + usize::from(header.payload_length());
+    let len = ipv6_packet_len(&header);
+    if len == 0 {
+        return Ok(slice_without_length(header, &packet[Ipv6Header::LEN..]));
+    }
     if packet.len() < len {
         let e = too_short(len, packet.len(), Layer::Ipv6Packet);
         let slice = ipv6_parts(header, &packet[Ipv6Header::LEN..]).slice;
@@ -409,6 +415,37 @@ fn ipv6_slice(packet: &[u8]) -> Result<LaxIpSlice, IpSliceError>
     Ok(ipv6_parts(header, &packet[Ipv6Header::LEN..len]))
 }
 
+// How long a packet of version 6 is by its payload length; 0 if that says nothing.
+#[inline(always)]
+fn ipv6_packet_len(header: &Ipv6HeaderSlice) -> usize
+    ensures value { result ≡ packet_len_of (Header.Ipv6 header.now) }
+{
+    match (header.payload_length(), header.next_header()) {
+        (0, IpNumber::IPV6_HEADER_HOP_BY_HOP) => 0,
+        (payload_length, _) => Ipv6Header::LEN + usize::from(payload_length),
+    }
+}
+
+// The parts of a packet of version 6 with this header, whose payload length says nothing, and this
+// body. Taken as it stands, that length cuts the packet off before the hop-by-hop options.
+#[inline(never)]
+fn slice_without_length<'a>(header: Ipv6HeaderSlice<'a>, body: &'a [u8]) -> LaxIpSlice<'a>
+    ensures found { (packet : List ℕ) → (read : Header6) →
+        ipv6_packet_len read.payload_length read.next_header ≡ 0 →
+        (begins : BeginsWith IsIpv6Layout packet read body.now) →
+        begins.front ≡ header.entry.slice.now → HasLaxIpParts packet result }
+{
+    let slice = ipv6_parts(header, body).slice;
+    let stop = Some(IpSliceError::Extensions(LenError {
+        required_len: 2,
+        len: 0,
+        len_source: LenSource::Ipv6HeaderPayloadLen,
+        layer: Layer::Ipv6ExtHeader,
+        layer_start_offset: Ipv6Header::LEN,
+    }));
+    LaxIpSlice { slice, stop }
+}
+
 // The parts of a packet of version 6 with this header and this body.
 #[inline(always)]
 fn ipv6_parts<'a>(header: Ipv6HeaderSlice<'a>, body: &'a [u8]) -> LaxIpSlice<'a>
@@ -416,6 +453,7 @@ fn ipv6_parts<'a>(header: Ipv6HeaderSlice<'a>, body: &'a [u8]) -> LaxIpSlice<'a>
         (begins : BeginsWith IsIpv6Layout (ipv6_bytes read packet) read body.now) →
         begins.front ≡ header.entry.slice.now → HasIpParts packet result.slice }
     ensures stop { (packet : List ℕ) → (read : Header6) →
+        ipv6_packet_len read.payload_length read.next_header ≢ 0 →
         40 + read.payload_length ≤ length packet →
         (begins : BeginsWith IsIpv6Layout (ipv6_bytes read packet) read body.now) →
         begins.front ≡ header.entry.slice.now →

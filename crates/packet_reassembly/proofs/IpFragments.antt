@@ -13,10 +13,11 @@ use Rattle.etherparse.specs.declared.err.LenError.{LenError}
 use Rattle.etherparse.specs.declared.net.ipv4_header.Ipv4Header.{Ipv4Header as Header4}
 use Rattle.etherparse.specs.declared.net.ipv6_header.Ipv6Header.{Ipv6Header as Header6}
 use Rattle.packet_parts.proofs.ExtensionEnds.{same_beginning}
-use Rattle.packet_parts.proofs.IpParts.{begins_4, ipv4_front, ipv6_front, is_version_4, is_version_6, longer, packet_len_6, same_cut_beginning}
+use Rattle.packet_parts.proofs.IpParts.{begins_4, begins_6, ipv4_front, is_version_4, is_version_6, longer, packet_len_6, same_cut_beginning, trimmed_front}
 use Rattle.packet_parts.proofs.IpRefusals.{refused_once}
 use Rattle.packet_parts.specs.Extensions.{EndsInHeader}
-use Rattle.packet_parts.specs.IpSlice.{EndsInExtensions, HasPartsWith, RefusesIp, ipv4_bytes, ipv6_bytes, packet_len_of}
+use Rattle.packet_parts.specs.IpSlice.{EndsInExtensions, HasPartsWith, RefusesIp, ipv4_bytes, ipv6_packet_len, ipv6_trimmed, packet_len_of}
+use Rattle.etherparse.specs.FirstByte.{version_of}
 use Rattle.packet_parts.specs.declared.ip_slice.IpHeaderSlice.{IpHeaderSlice}
 use Rattle.packet_parts.specs.declared.ip_slice.IpHeaderSlice.TheVariants as header
 use Rattle.packet_parts.specs.declared.ip_slice.IpSlice.{IpSlice}
@@ -31,21 +32,28 @@ use Rattle.packet_reassembly.specs.declared.ip_fragment_slice.IpFragmentSlice.{I
 front_4 : (s : List ℕ) (h : Header4) (x : List ℕ) → BeginsWith IsIpv4Layout (ipv4_bytes h s) h x → BeginsWith IsIpv4Layout s h (x ++ (ipv4_front h s).0)
 front_4 s h x b = longer IsIpv4Layout s _ _ h x (ipv4_front h s).1 b
 
-front_6 : (s : List ℕ) (h : Header6) (x : List ℕ) → BeginsWith IsIpv6Layout (ipv6_bytes h s) h x → BeginsWith IsIpv6Layout s h (x ++ (ipv6_front h s).0)
-front_6 s h x b = longer IsIpv6Layout s _ _ h x (ipv6_front h s).1 b
+front_6 : (s : List ℕ) (h : Header6) (x : List ℕ) → BeginsWith IsIpv6Layout (ipv6_trimmed h s) h x → BeginsWith IsIpv6Layout s h (x ++ (trimmed_front h s).0)
+front_6 s h x b = longer IsIpv6Layout s _ _ h x (trimmed_front h s).1 b
 
 -- it has one version
 one_version : (s : List ℕ) (g : Header4) (h : Header6) (x y : List ℕ) → BeginsWith IsIpv4Layout s g x → BeginsWith IsIpv6Layout s h y → ⊥
 one_version s g h x y b c = omega (arith, is_version_4 s g x b, is_version_6 s h y c)
 
--- one that ends within an extension header has all its bytes
-pub extensions_enough : (s : List ℕ) (a : IpSlice) (h : IpHeaderSlice) (e : LenError) → HasPartsWith h s a → EndsInExtensions s e → (packet_len_of h ≢ 0) × (packet_len_of h ≤ length s)
+-- one that ends within an extension header has all its bytes, or its payload length says nothing
+enough_6 : (p n len : ℕ) → 40 + p ≤ len → ipv6_packet_len p n ≤ len
+enough_6 p n len enough = grind (arith, nat_tests, enough)
+
+pub all_bytes_6 : (p n len : ℕ) → ipv6_packet_len p n ≤ len → 40 ≤ len → 40 + p ≤ len
+all_bytes_6 p n len told header = grind (arith, nat_tests, told, header)
+
+pub extensions_enough : (s : List ℕ) (a : IpSlice) (h : IpHeaderSlice) (e : LenError) → HasPartsWith h s a → EndsInExtensions s e → (packet_len_of h ≡ 0 → version_of s ≡ 6) × (packet_len_of h ≤ length s)
 extensions_enough s a (header.Ipv4 view) e p q = absurd (one_version s p.header q.header _ _ (begins_4 s _ a p) (front_6 s q.header q.body q.begins))
 extensions_enough s a (header.Ipv6 view) e p q =
-    let same = (same_cut_beginning IsIpv6Layout RefusesIpv6 tells_ipv6 ipv6_bytes ipv6_front s p.header q.header p.body q.body p.begins q.begins).0 in
+    let begins = begins_6 s _ a p in
+    let same = (same_beginning IsIpv6Layout RefusesIpv6 tells_ipv6 s p.header q.header _ _ begins (front_6 s q.header q.body q.begins)).0 in
     let told = packet_len_6 view p.header p.begins.front p.begins.layout p.view in
     let enough : 40 + p.header.payload_length ≤ length s = rw (sym same) at q.enough in
-    (omega (arith, told), omega (arith, told, enough))
+    (λ zero. is_version_6 s p.header _ begins, rw (sym told) at (enough_6 p.header.payload_length p.header.next_header (length s) enough))
 
 -- a refusal is one of a packet that is not sliced
 is_refused : (s : List ℕ) (e : IpSliceError) → RefusesIpFragment s e → RefusesIp s e
@@ -84,14 +92,14 @@ not_refused_6 s h x (Packet e) b enough (inr (inr r)) =
 not_refused_6 s h x (Extensions e) b enough r = (e, refl)
 
 -- a packet that ends within an extension header, and not after a fragment header that decides
-module _ (s : List ℕ) (h : Header6) (body : List ℕ) (b : BeginsWith IsIpv6Layout (ipv6_bytes h s) h body) (enough : 40 + h.payload_length ≤ length s) where
+module _ (s : List ℕ) (h : Header6) (body : List ℕ) (b : BeginsWith IsIpv6Layout (ipv6_trimmed h s) h body) (enough : 40 + h.payload_length ≤ length s) where
   -- nothing that the body cannot be together with such a header
   refused_6 : (e : IpSliceError) → RefusesIpFragment s e → ((n : ℕ) (r : List ℕ) → EndsInHeader body h.next_header None n r → ⊥) → ⊥
   refused_6 e r not_before =
       let (y, is) = not_refused_6 s h _ e (front_6 s h body b) enough (is_refused s e r) in
       let before : EndsBeforeFragment s y = subst (RefusesIpFragment s) is r in
       let q = before.ends in
-      let same = same_cut_beginning IsIpv6Layout RefusesIpv6 tells_ipv6 ipv6_bytes ipv6_front s q.header h q.body body q.begins b in
+      let same = same_cut_beginning IsIpv6Layout RefusesIpv6 tells_ipv6 ipv6_trimmed trimmed_front s q.header h q.body body q.begins b in
       not_before q.number q.rest (rw (same.0, same.1, before.undecided) at q.ends.0)
 
 -- a fragment is not refused
@@ -111,15 +119,15 @@ fragment_not_whole s f (inl p) (inl q) =
 fragment_not_whole s f (inl p) (inr q) = one_version s p.header q.header _ _ (front_4 s p.header f.payload.now p.begins) (front_6 s q.header q.body q.begins)
 fragment_not_whole s f (inr p) (inl q) = one_version s q.header p.header _ _ (front_4 s q.header q.payload q.begins) (front_6 s p.header p.body p.begins)
 fragment_not_whole s f (inr p) (inr q) =
-    let same = same_cut_beginning IsIpv6Layout RefusesIpv6 tells_ipv6 ipv6_bytes ipv6_front s p.header q.header p.body q.body p.begins q.begins in
+    let same = same_cut_beginning IsIpv6Layout RefusesIpv6 tells_ipv6 ipv6_trimmed trimmed_front s p.header q.header p.body q.body p.begins q.begins in
     parts_not_at p.parts q.none.number q.none.rest (rw (same.0, same.1) at p.are_parts) q.none.passes (λ skippable _. q.none.upper skippable)
 
 -- the headers of a fragment are what is before its bytes
 headers_4 : (s : List ℕ) (f : IpFragmentSlice) (p : HasIpv4Fragment s f) → f.headers.now ≡ take (length (ipv4_bytes p.header s) - length f.payload.now) (ipv4_bytes p.header s)
 headers_4 s f p = rw (p.headers, p.begins.whole) (sym (take_at p.begins.front f.payload.now _ (omega (arith, length-append p.begins.front f.payload.now))))
 
-headers_6 : (s : List ℕ) (f : IpFragmentSlice) (p : HasIpv6Fragment s f) → f.headers.now ≡ take (length (ipv6_bytes p.header s) - length f.payload.now) (ipv6_bytes p.header s)
-headers_6 s f p = rw (p.headers, p.payload) (sym (before_payload p.begins.front p.parts.before.now p.parts.last.now p.are_parts.begins.front p.parts.payload.now (ipv6_bytes p.header s)
+headers_6 : (s : List ℕ) (f : IpFragmentSlice) (p : HasIpv6Fragment s f) → f.headers.now ≡ take (length (ipv6_trimmed p.header s) - length f.payload.now) (ipv6_trimmed p.header s)
+headers_6 s f p = rw (p.headers, p.payload) (sym (before_payload p.begins.front p.parts.before.now p.parts.last.now p.are_parts.begins.front p.parts.payload.now (ipv6_trimmed p.header s)
     (p.begins.whole ∙ ap (λ x. p.begins.front ++ x) (p.are_parts.whole ∙ ap (λ x. p.parts.before.now ++ (p.parts.last.now ++ x)) p.are_parts.begins.whole))))
 
 -- a number is that of one codepoint
@@ -134,7 +142,7 @@ fragment_once s f g (inl p) (inl q) =
 fragment_once s f g (inl p) (inr q) = absurd (one_version s p.header q.header _ _ (front_4 s p.header f.payload.now p.begins) (front_6 s q.header q.body q.begins))
 fragment_once s f g (inr p) (inl q) = absurd (one_version s q.header p.header _ _ (front_4 s q.header g.payload.now q.begins) (front_6 s p.header p.body p.begins))
 fragment_once s f g (inr p) (inr q) =
-    let same = same_cut_beginning IsIpv6Layout RefusesIpv6 tells_ipv6 ipv6_bytes ipv6_front s p.header q.header p.body q.body p.begins q.begins in
+    let same = same_cut_beginning IsIpv6Layout RefusesIpv6 tells_ipv6 ipv6_trimmed trimmed_front s p.header q.header p.body q.body p.begins q.begins in
     let parts = parts_once p.parts q.parts (rw (same.0, same.1) at p.are_parts) q.are_parts in
     let ecn : ecn_value f.ecn ≡ ecn_value g.ecn = rw same.0 at p.ecn ∙ sym q.ecn in
     let last : f.last_extension ≡ g.last_extension = p.last_extension ∙ ap (λ n. 40 + n) parts.2 ∙ sym q.last_extension in

@@ -10,7 +10,7 @@ use Rattle.etherparse.specs.declared.IpEcn.{IpEcn}
 use Rattle.etherparse.specs.declared.net.ipv4_header.Ipv4Header.{Ipv4Header}
 use Rattle.etherparse.specs.declared.net.ipv6_header.Ipv6Header.{Ipv6Header}
 use Rattle.etherparse.specs.declared.err.LenError.{LenError}
-use Rattle.packet_parts.specs.IpSlice.{EndsInExtensions, RefusesIp, ipv4_bytes, ipv6_bytes}
+use Rattle.packet_parts.specs.IpSlice.{EndsInExtensions, RefusesIp, ipv4_bytes, ipv6_trimmed}
 use Rattle.packet_parts.specs.declared.ip_slice.IpSliceError.{IpSliceError}
 use Rattle.packet_parts.specs.declared.ip_slice.IpSliceError.TheVariants as error
 use Rattle.packet_reassembly.specs.Ipv6Fragment.{AreFragmentParts, HasNoFragment}
@@ -45,7 +45,7 @@ pub record HasIpv6Fragment (packet : List ℕ) (f : IpFragmentSlice) : Type 0 wh
   pub header : Ipv6Header
   pub body : List ℕ
   pub enough : 40 + header.payload_length ≤ length packet
-  pub begins : BeginsWith IsIpv6Layout (ipv6_bytes header packet) header body
+  pub begins : BeginsWith IsIpv6Layout (ipv6_trimmed header packet) header body
   pub parts : Ipv6FragmentParts
   pub are_parts : AreFragmentParts body header.next_header parts
   pub id : f.ip ≡ Ipv6 header.source header.destination parts.fragment.identification
@@ -75,15 +75,15 @@ pub record IsWholeIpv6 (packet : List ℕ) : Type 0 where
   pub header : Ipv6Header
   pub body : List ℕ
   pub enough : 40 + header.payload_length ≤ length packet
-  pub begins : BeginsWith IsIpv6Layout (ipv6_bytes header packet) header body
+  pub begins : BeginsWith IsIpv6Layout (ipv6_trimmed header packet) header body
   pub none : HasNoFragment body header.next_header
 
 abbrev pub IsNoFragment : List ℕ → Type 0
 IsNoFragment packet = IsWholeIpv4 packet ⊎ IsWholeIpv6 packet
 
--- The packet has all its bytes, and ends within an extension header with no fragment header before
--- it that is not atomic. With one it is a fragment: if that is the first, it lacks a part of the
--- header chain (RFC 7112 section 5).
+-- The packet, trimmed at its payload length, ends within an extension header with no fragment
+-- header before it that is not atomic. With one it is a fragment: if that is the first, it lacks a
+-- part of the header chain (RFC 7112 section 5).
 pub record EndsBeforeFragment (packet : List ℕ) (e : LenError) : Type 0 where
   pub ends : EndsInExtensions packet e
   pub undecided : ends.fragment ≡ None

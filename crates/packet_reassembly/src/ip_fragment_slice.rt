@@ -2,13 +2,14 @@
 
 ghost use Rattle.std.specs.Prelude.{ℕ, ◌≡◌, ◌≢◌, ◌≤◌, ◌+◌, List, IfErr, IfNone, IfOk, IfSome};
 ghost use Rattle.std.specs.Prelude.{Option, Result, length};
+ghost use Rattle.etherparse.specs.FirstByte.{version_of};
 ghost use Rattle.etherparse.specs.Ipv4Header.{IsIpv4Layout};
 ghost use Rattle.etherparse.specs.Ipv6Header.{IsIpv6Layout};
 ghost use Rattle.etherparse.specs.Reading.{BeginsWith};
 ghost use Rattle.etherparse.specs.declared.net.ipv4_header.Ipv4Header.{Ipv4Header as Header4};
 ghost use Rattle.etherparse.specs.declared.net.ipv6_header.Ipv6Header.{Ipv6Header as Header6};
 ghost use Rattle.packet_parts.specs.declared.ip_slice.IpSliceError.{IpSliceError as Refused};
-ghost use Rattle.packet_parts.specs.IpSlice.{HasIpParts, ipv4_bytes, ipv6_bytes, packet_len_of};
+ghost use Rattle.packet_parts.specs.IpSlice.{HasIpParts, ipv4_bytes, ipv6_trimmed, packet_len_of};
 ghost use Rattle.packet_reassembly.specs.IpFragment.{HasIpFragment, IsNoFragment};
 ghost use Rattle.packet_reassembly.specs.IpFragment.{ReadsIpFragment, RefusesIpFragment};
 ghost use Rattle.packet_reassembly.specs.IpFragment.{ip_fragment_answer};
@@ -88,6 +89,7 @@ pub fn ip_fragment(packet: &[u8]) -> Result<Option<IpFragmentSlice>, IpSliceErro
     };
     match slice.header {
         IpHeaderSlice::Ipv4(view) => Ok(ipv4_fragment(view, slice.payload)),
+        // As far as its payload length says, taken as it stands: a jumbogram is no fragment.
         IpHeaderSlice::Ipv6(view) => {
             let len = Ipv6Header::LEN + usize::from(view.payload_length());
             ipv6_fragment(view, &packet[..len], &packet[Ipv6Header::LEN..len])
@@ -95,10 +97,12 @@ pub fn ip_fragment(packet: &[u8]) -> Result<Option<IpFragmentSlice>, IpSliceErro
     }
 }
 
-// The parts of a packet that has all its bytes. It can end within an extension header.
+// The parts of a packet that has the bytes that its length field says, which can end within an
+// extension header. Of an IPv6 packet whose payload length says nothing they are of all bytes.
 fn all_there(packet: &[u8]) -> Result<IpSlice, IpSliceError>
     ensures parts { IfOk result (HasIpParts packet.now) }
-    ensures told { IfOk result (λ slice. packet_len_of slice.header ≢ 0) }
+    ensures untold_is_ipv6 { IfOk result (λ slice. packet_len_of slice.header ≡ 0 →
+        version_of packet.now ≡ 6) }
     ensures enough { IfOk result (λ slice. packet_len_of slice.header ≤ length packet.now) }
     ensures refused { IfErr result (RefusesIpFragment packet.now) }
 {
@@ -157,17 +161,17 @@ fn ipv6_fragment<'a>(
     requires whole { length body.now ≤ length whole.now }
     ensures found { (packet : List ℕ) → (header : Header6) →
         40 + header.payload_length ≤ length packet →
-        (begins : BeginsWith IsIpv6Layout (ipv6_bytes header packet) header body.now) →
-        begins.front ≡ view.entry.slice.now → ipv6_bytes header packet ≡ whole.now →
+        (begins : BeginsWith IsIpv6Layout (ipv6_trimmed header packet) header body.now) →
+        begins.front ≡ view.entry.slice.now → ipv6_trimmed header packet ≡ whole.now →
         IfOk result (λ found. IfSome found (HasIpFragment packet)) }
     ensures none { (packet : List ℕ) → (header : Header6) →
         40 + header.payload_length ≤ length packet →
-        (begins : BeginsWith IsIpv6Layout (ipv6_bytes header packet) header body.now) →
+        (begins : BeginsWith IsIpv6Layout (ipv6_trimmed header packet) header body.now) →
         begins.front ≡ view.entry.slice.now →
         IfOk result (λ found. IfNone found (IsNoFragment packet)) }
     ensures refused { (packet : List ℕ) → (header : Header6) →
         40 + header.payload_length ≤ length packet →
-        (begins : BeginsWith IsIpv6Layout (ipv6_bytes header packet) header body.now) →
+        (begins : BeginsWith IsIpv6Layout (ipv6_trimmed header packet) header body.now) →
         begins.front ≡ view.entry.slice.now → IfErr result (RefusesIpFragment packet) }
 {
     let parts = match ipv6_fragment_parts(body, view.next_header()) {

@@ -7,8 +7,9 @@ pub struct IpPayloadSlice<'a> {
     pub ip_number: IpNumber,
     /// Whether it is a fragment.
     pub fragmented: bool,
-    /// Whether fewer bytes are there than the packet says.
+    /// Whether fewer bytes are there than the packet says; `false` if it says nothing.
     pub incomplete: bool,
-    /// The bytes, as far as they are there and the packet goes: without Ethernet's padding.
+    /// The bytes, as far as they are there and the packet goes: without Ethernet's padding, if the
+    /// packet says how long it is.
     pub payload: &'a [u8],
 }

@@ -39,7 +39,9 @@ macro_rules! ip_slice {
                 self.fragment
             }
 
-            /// How long the packet says it is, in bytes and with its header.
+            /// How long the packet says it is, in bytes and with its header; 0 if it does not say
+            /// it: by a total length of 0, or a payload length of 0 before hop-by-hop options, as in
+            /// a jumbogram (RFC 2675 section 3).
             pub fn packet_len(&self) -> usize {
                 self.packet_len
             }

@@ -16,6 +16,6 @@ returns-clause-parts c = λ packet read begins view. record {
 }
 
 pub returns-clause-stop : goal.returns-clause-stop
-returns-clause-stop c = λ packet read enough begins view.
+returns-clause-stop c = λ packet read told enough begins view.
     let ends = rw (c.next_header.ensures.value read (rw view at begins.layout)) at c.after_extensions-after.ensures.ends in
-    whole_or_refused packet _ c.args.header read _ _ begins view refl enough _ _ c.moved-stop.ensures.value ends
+    whole_or_refused packet _ c.args.header read _ _ begins view refl told enough _ _ c.moved-stop.ensures.value ends
