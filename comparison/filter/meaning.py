@@ -9,11 +9,15 @@ packet does not have is not found: the primitive is false, and `not` of it true.
 RFC 791, 8200, 4302 and 6946 for IP, RFC 826 and 903 for ARP and RARP, IEEE 802.1Q for tags,
 LINKTYPE_LINUX_SLL and LINKTYPE_LINUX_SLL2 of tcpdump.org for Linux cooked captures."""
 import itertools
+import os
 import struct
 import sys
 from dataclasses import dataclass, field
 
 import grammar
+
+sys.path.append(os.path.join(os.path.dirname(os.path.abspath(__file__)), '../../crates/conformance'))
+import covered
 
 TAGS = 0x8100, 0x88a8, 0x9100
 # hop-by-hop options, routing, fragment, authentication, destination options, mobility, host
@@ -200,9 +204,22 @@ def ones_complement_sum(data):
     return total
 
 
+def ends_of(ip):
+    """the original source and the final destination of a whole packet, each None if unknown"""
+    if ip.version == 4:
+        return ip.header[12:16], covered.past_source_route(ip.header[16:20], ip.header[20:])
+    body, chain, place = ip.whole[40:], [], 0
+    for number in ip.chain:
+        chain.append((number, place))
+        place += covered.extension_len(number, body[place:])
+    return (covered.original_source(ip.header[8:24], chain, body),
+            covered.final_destination(ip.header[24:40], chain, body))
+
+
 def checksum_is_wrong(ip):
-    """whether a receiver finds the checksum of the IPv4 header, or of UDP, TCP, ICMP or ICMPv6
-    wrong; a fragment, or a packet that is cut, has none of the latter"""
+    """whether the final destination finds the checksum of the IPv4 header, or of UDP, TCP, ICMP or
+    ICMPv6 wrong; of the latter a fragment, or a packet that is cut, has none, and that of a packet
+    between ends that are not known is not judged"""
     if ip is None:
         return False
     if ip.version == 4 and ones_complement_sum(ip.header) != 0xffff:
@@ -210,27 +227,28 @@ def checksum_is_wrong(ip):
     if ip.fragment or not ip.complete:
         return False
     icmp = 1 if ip.version == 4 else 58
-    covered = ip.payload
+    datagram, ends = ip.payload, ends_of(ip)
+    if None in ends:
+        return False
     if ip.upper == 17:
-        length = number_at(covered, 4)
-        if not 8 <= length <= len(covered):
+        length = number_at(datagram, 4)
+        if not 8 <= length <= len(datagram):
             return False
-        covered = covered[:length]
-        if number_at(covered, 6) == 0:
+        datagram = datagram[:length]
+        if number_at(datagram, 6) == 0:
             return ip.version == 6
     elif ip.upper == 6:
-        if len(covered) < 20:
+        if len(datagram) < 20:
             return False
-    elif ip.upper != icmp or len(covered) < 4:
+    elif ip.upper != icmp or len(datagram) < 4:
         return False
     if ip.version == 4 and ip.upper == 1:
         front = b''
     elif ip.version == 4:
-        front = struct.pack('>IIxBH', ip.source, ip.destination, ip.upper, len(covered))
+        front = b''.join(ends) + struct.pack('>xBH', ip.upper, len(datagram))
     else:
-        front = (ip.source.to_bytes(16, 'big') + ip.destination.to_bytes(16, 'big')
-                 + struct.pack('>I3xB', len(covered), ip.upper))
-    return ones_complement_sum(front + covered) != 0xffff
+        front = b''.join(ends) + struct.pack('>I3xB', len(datagram), ip.upper)
+    return ones_complement_sum(front + datagram) != 0xffff
 
 
 # ---- primitives. Each function takes the frame, its length on the wire, and the arguments.

@@ -36,6 +36,11 @@ const TCP: &str =
     "02000000000402000000000308004500002e00000000400666c80a0000010a0000020101020203040506\
     0708090a602a0b0c0d0e0f10020405061112";
 
+// The hop-by-hop options of a jumbogram, and 12 bytes of the UDP datagram after them.
+const JUMBOGRAM: &str =
+    "600000000000004020010db800000000000000000000000120010db8000000000000000000000002\
+    1100c20400010008040000350000000001020304";
+
 fn ethernet(payload: &str) -> Vec<u8> {
     bytes_of(&format!("020000000004020000000003{payload}"))
 }
@@ -562,6 +567,32 @@ fn a_batch_gives_what_each_frame_gives() {
         (packet.link, packet.net, batch.size_hint()),
         (None, None, (2, Some(2)))
     );
+}
+
+#[test]
+fn a_jumbogram_has_the_parts_of_all_its_bytes() {
+    let packet = bytes_of(JUMBOGRAM);
+    let stop = LenError {
+        len_source: LenSource::Ipv6HeaderPayloadLen,
+        ..len_error(Layer::Ipv6ExtHeader, 2, 0, 40)
+    };
+    assert_eq!(
+        SlicedPacket::from_ip(&packet),
+        Err(SliceError::Len(stop.clone()))
+    );
+    let lax = LaxSlicedPacket::from_ip(&packet).unwrap();
+    assert_eq!(lax.stop, Some(stop.into()));
+    let Some(NetSlice::Ipv6(ip)) = lax.net else {
+        panic!("no IPv6")
+    };
+    assert_eq!((ip.packet_len(), ip.extensions()), (0, &packet[40..48]));
+    let payload = lax.ip_payload().unwrap();
+    assert_eq!(
+        (payload.ip_number, payload.payload, payload.incomplete),
+        (IpNumber::UDP, &packet[48..], false)
+    );
+    assert_eq!(lax.ports(), Some((1024, 53)));
+    assert_eq!(lax.verdict(), Some(Verdict::Absent(Absence::Incomplete)));
 }
 
 #[test]

@@ -428,7 +428,7 @@ fn ipv6_packet_len(header: &Ipv6HeaderSlice) -> usize
 
 // The parts of a packet of version 6 with this header, whose payload length says nothing, and this
 // body. Taken as it stands, that length cuts the packet off before the hop-by-hop options.
-#[inline(never)]
+#[inline(always)] // The caller has the parts in registers.
 fn slice_without_length<'a>(header: Ipv6HeaderSlice<'a>, body: &'a [u8]) -> LaxIpSlice<'a>
     ensures found { (packet : List ℕ) → (read : Header6) →
         ipv6_packet_len read.payload_length read.next_header ≡ 0 →
